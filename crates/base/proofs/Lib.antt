@@ -1,0 +1,4 @@
+pub mod Tests
+pub mod Ladder
+pub mod Counted
+pub mod Refusals

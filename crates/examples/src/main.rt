@@ -1,0 +1,12 @@
+// Exercises the functions on good and damaged input and prints a line for each. What it must print, the file stdout beside
+// src/, is written from document 01.
+mod numbers;
+mod show;
+mod sums;
+mod versions;
+
+fn main() {
+    numbers::show_all();
+    versions::show_all();
+    sums::show_all();
+}

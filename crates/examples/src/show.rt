@@ -1,0 +1,10 @@
+// Printing to standard output.
+use libc::STDOUT_FILENO;
+
+pub fn bytes(s: &[u8]) {
+    io::write_all(STDOUT_FILENO, s);
+}
+
+pub fn number(n: u64) {
+    io::print_decimal(STDOUT_FILENO, n);
+}

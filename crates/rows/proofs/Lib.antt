@@ -1,0 +1,9 @@
+pub mod FieldLaws
+pub mod LineLaws
+pub mod ColumnLaws
+pub mod ThenLaws
+pub mod Plain
+pub mod LineBounds
+pub mod LineBack
+pub mod ColumnMeaning
+pub mod NamesLine

@@ -1,0 +1,4 @@
+// Lines of fields: what the cluster list and the text of a package are both made of.
+pub mod columns;
+pub mod field;
+pub mod line;

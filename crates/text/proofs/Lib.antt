@@ -1,0 +1,10 @@
+pub mod NumberLaws
+pub mod ThenLaws
+pub mod VersionLaws
+pub mod DigitLaws
+pub mod PutLaws
+pub mod Bounds
+pub mod WordLaws
+pub mod RoundTrip
+pub mod Meaning
+pub mod Bytes

@@ -1,0 +1,7 @@
+pub mod Then
+pub mod Number
+pub mod Version
+pub mod Word
+pub mod Digits
+pub mod Put
+pub mod Meaning

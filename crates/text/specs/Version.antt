@@ -1,0 +1,46 @@
+-- "A version is four parts of 0 to 65,535 joined by dots".
+use Prim.Native.Nat.{ℕ, _+_}
+use mathlib.Core.Bool.{Bool, cond, _&&_}
+use mathlib.Core.List.{List, _∷_, _++_}
+use lib.ListN.{length, getD}
+use lib.Dec.{eqb, leb, ltb}
+use Rattle.base.specs.Quoted.{dot}
+use Rattle.text.specs.declared.number.Number.{Number}
+use Rattle.text.specs.declared.number.Number.the-variants as number
+use Rattle.text.specs.declared.version.Version.{Version}
+use Rattle.text.specs.declared.version.VersionRead.{VersionRead}
+use Rattle.text.specs.declared.version.VersionRead.the-variants.{Value, IllFormed}
+use Rattle.text.specs.Number.{numberAt}
+use Rattle.text.specs.Digits.{digits}
+use Rattle.text.specs.Then.{andThen, andThenVersion}
+
+-- "65,535": the one place in the definitions that has this limit
+abbrev pub partMost : ℕ
+partMost = 65535
+
+-- "four parts of 0 to 65,535"
+unfoldable pub versionWithin : Version → Bool
+versionWithin v = leb (v .first) partMost && (leb (v .second) partMost && (leb (v .third) partMost && leb (v .fourth) partMost))
+
+-- a dot and the part behind it. Past the end `getD` gives 0, which is no dot
+unfoldable pub dottedAt : List ℕ → ℕ → Number
+dottedAt s at = cond (eqb (getD s at 0) dot) (numberAt s (at + 1) partMost) number.IllFormed
+
+-- the version at a position of a text
+unfoldable pub versionAt : List ℕ → ℕ → VersionRead
+versionAt s at =
+    andThen IllFormed (numberAt s at partMost) λ first behind-first.
+    andThen IllFormed (dottedAt s (behind-first .at)) λ second behind-second.
+    andThen IllFormed (dottedAt s (behind-second .at)) λ third behind-third.
+    andThen IllFormed (dottedAt s (behind-third .at)) λ fourth next.
+    Value (record { first = first; second = second; third = third; fourth = fourth }) next
+
+-- a text that is one version and nothing else
+unfoldable pub wholeVersion : List ℕ → VersionRead
+wholeVersion s =
+    andThenVersion IllFormed (versionAt s 0) λ v next.
+    cond (ltb (next .at) (length s)) IllFormed (Value v next)
+
+-- a version as text
+unfoldable pub versionText : Version → List ℕ
+versionText v = digits (v .first) ++ ((dot ∷ digits (v .second)) ++ ((dot ∷ digits (v .third)) ++ (dot ∷ digits (v .fourth))))

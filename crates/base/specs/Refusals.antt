@@ -22,3 +22,8 @@ firstRefusal (r ∷ rs) = cond (r .applies) (some (r .number)) (firstRefusal rs)
 unfoldable pub noneApplies : List Refusal → Bool
 noneApplies [] = true
 noneApplies (r ∷ rs) = not (r .applies) && noneApplies rs
+
+-- "the refusal number, or 0"
+abbrev pub numberOrZero : Option ℕ → ℕ
+numberOrZero none = 0
+numberOrZero (some number) = number

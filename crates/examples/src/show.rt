@@ -8,3 +8,11 @@ pub fn bytes(s: &[u8]) {
 pub fn number(n: u64) {
     io::print_decimal(STDOUT_FILENO, n);
 }
+
+pub fn yes_or_no(b: bool) {
+    if b {
+        bytes(b"yes\n");
+    } else {
+        bytes(b"no\n");
+    }
+}

@@ -1,0 +1,11 @@
+pub mod Arrays
+pub mod Along
+pub mod Finding
+pub mod Changes
+pub mod Limits
+pub mod InTurn
+pub mod Equal
+pub mod Placing
+pub mod Answers
+pub mod Views
+pub mod Structs

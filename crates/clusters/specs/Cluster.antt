@@ -1,0 +1,33 @@
+-- Clusters, their needs and limits.
+use Prim.Native.Nat.{ℕ}
+use mathlib.Core.Bool.{Bool, true, _&&_}
+use mathlib.Core.List.{List, [], _∷_}
+use lib.Dec.{leb}
+use lib.ListN.{length}
+use Rattle.text.specs.declared.version.Version.{Version}
+use Rattle.text.specs.Version.{versionWithin}
+use Rattle.clusters.specs.declared.cluster.Need.{Need}
+
+-- "A cluster is a part number .., a version, and 0 to 4 needs in order." A need is "a part number and a least version"
+pub record Cluster : Type 0 where
+  pub part : ℕ
+  pub version : Version
+  pub needs : List Need
+
+-- "a part number 1 to 4,294,967,295"
+unfoldable pub partWithin : ℕ → Bool
+partWithin part = leb 1 part && leb part 4294967295
+
+unfoldable pub needWithin : Need → Bool
+needWithin n = partWithin (n .part) && versionWithin (n .least)
+
+unfoldable pub needsWithin : List Need → Bool
+needsWithin [] = true
+needsWithin (n ∷ ns) = needWithin n && needsWithin ns
+
+-- "0 to 4 needs"
+abbrev pub needsMost : ℕ
+needsMost = 4
+
+unfoldable pub clusterWithin : Cluster → Bool
+clusterWithin c = partWithin (c .part) && (versionWithin (c .version) && (leb (length (c .needs)) needsMost && needsWithin (c .needs)))

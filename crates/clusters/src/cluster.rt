@@ -1,0 +1,63 @@
+// A cluster: a part number, a version and its needs in order.
+use text::version::Version;
+ghost use mathlib.Core.Path.{_≡_};
+ghost use Prim.Native.Nat.{_<_};
+ghost use Rattle.clusters.specs.Cluster.{needsMost};
+ghost use Rattle.clusters.specs.Exact.{newCluster, withNeed};
+
+// The most needs that a cluster has: the one place in the code that has this limit.
+pub const NEEDS_MOST: usize = 4;
+
+// Another cluster that must be there, at the least version or above.
+pub struct Need {
+    pub part: u32,
+    pub least: Version,
+}
+
+// The first need_count of the needs count; the places behind them are unused.
+pub struct Cluster {
+    pub part: u32,
+    pub version: Version,
+    pub needs: [Need; NEEDS_MOST],
+    pub need_count: usize,
+}
+
+// A cluster with no needs and every unused place 0.
+pub fn new_cluster(part: u32, version: Version) -> Cluster
+    ensures { λ r. ⌜ r ≡ newCluster part version ⌝ }
+{
+    let no_version = Version {
+        first: 0,
+        second: 0,
+        third: 0,
+        fourth: 0,
+    };
+    let no_need = Need {
+        part: 0,
+        least: no_version,
+    };
+    let no_needs = [no_need; NEEDS_MOST];
+    Cluster {
+        part: part,
+        version: version,
+        needs: no_needs,
+        need_count: 0,
+    }
+}
+
+// A cluster with one need more, behind the others. Callers check before that there is room.
+pub fn with_need(c: Cluster, n: Need) -> Cluster
+    requires { ⌜ c .«need_count» < needsMost ⌝ }
+    ensures { λ r. ⌜ r ≡ withNeed c n ⌝ }
+{
+    let count = c.need_count;
+    let mut needs = c.needs;
+    needs[count] = n;
+    let version = c.version;
+    Cluster {
+        part: c.part,
+        version: version,
+        needs: needs,
+        need_count: count + 1,
+    }
+}

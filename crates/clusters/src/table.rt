@@ -1,0 +1,95 @@
+// A table of clusters in rising part number.
+use crate::cluster::Cluster;
+use crate::cluster::Need;
+use crate::cluster::new_cluster;
+use crate::cluster::with_need;
+use text::version::Version;
+ghost use mathlib.Core.Path.{_≡_};
+ghost use Prim.Native.Nat.{_-_, _≤_, _<_};
+ghost use lib.ListN.{getD};
+ghost use Rattle.clusters.specs.Cluster.{needsMost};
+ghost use Rattle.clusters.specs.Table.{clustersMost};
+ghost use Rattle.clusters.specs.View.{noCluster, viewTable};
+ghost use Rattle.clusters.specs.Place.{placeOf};
+ghost use Rattle.clusters.specs.Exact.{emptyTable, append, withNeedAtLast};
+
+// The most clusters that a table has: the one place in the code that has this limit.
+pub const CLUSTERS_MOST: usize = 64;
+
+// The first count of the clusters count; the places behind them are unused.
+pub struct Table {
+    pub clusters: [Cluster; CLUSTERS_MOST],
+    pub count: usize,
+}
+
+// The place of a cluster in a table.
+pub enum Found {
+    At(usize),
+    Nothing,
+}
+
+// Where the cluster with a part number stands. The check of the limits of the table meets what is required.
+pub fn find(t: Table, part: u32) -> Found
+    requires { ⌜ t .count ≤ clustersMost ⌝ }
+    ensures { λ r. ⌜ r ≡ placeOf part (viewTable t) ⌝ }
+{
+    let count = t.count;
+    let mut i = 0;
+    while i < count {
+        let c = t.clusters[i];
+        if part == c.part {
+            return Found::At(i);
+        }
+        i += 1;
+    }
+    Found::Nothing
+}
+
+// A table with no clusters and every unused place 0.
+pub fn empty_table() -> Table
+    ensures { λ r. ⌜ r ≡ emptyTable ⌝ }
+{
+    let no_version = Version {
+        first: 0,
+        second: 0,
+        third: 0,
+        fourth: 0,
+    };
+    let cleared = new_cluster(0, no_version);
+    let clusters = [cleared; CLUSTERS_MOST];
+    Table {
+        clusters: clusters,
+        count: 0,
+    }
+}
+
+// A cluster put behind the last. Callers check before that there is room.
+pub fn append(t: Table, c: Cluster) -> Table
+    requires { ⌜ t .count < clustersMost ⌝ }
+    ensures { λ r. ⌜ r ≡ append t c ⌝ }
+{
+    let count = t.count;
+    let mut clusters = t.clusters;
+    clusters[count] = c;
+    Table {
+        clusters: clusters,
+        count: count + 1,
+    }
+}
+
+// A need put behind those of the last cluster. Callers check before that there is a cluster and that it has room.
+pub fn with_need_at_last(t: Table, n: Need) -> Table
+    requires { ⌜ (1 ≤ t .count) × (t .count ≤ clustersMost) × (getD (t .clusters) (t .count - 1) noCluster .«need_count» < needsMost) ⌝ }
+    ensures { λ r. ⌜ r ≡ withNeedAtLast t n ⌝ }
+{
+    let count = t.count;
+    let last = count - 1;
+    let mut clusters = t.clusters;
+    let c = clusters[last];
+    let d = with_need(c, n);
+    clusters[last] = d;
+    Table {
+        clusters: clusters,
+        count: count,
+    }
+}

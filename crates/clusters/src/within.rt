@@ -1,0 +1,108 @@
+// The limits of versions, needs, clusters and tables, checked on any values of the fields.
+use crate::cluster::Cluster;
+use crate::cluster::NEEDS_MOST;
+use crate::cluster::Need;
+use crate::table::CLUSTERS_MOST;
+use crate::table::Table;
+use text::version::PART_MOST;
+use text::version::Version;
+ghost use mathlib.Core.Path.{_≡_};
+ghost use Prim.Native.Nat.{_≤_};
+ghost use Rattle.text.specs.Version.{versionWithin};
+ghost use Rattle.clusters.specs.Cluster.{partWithin, needWithin, needsWithin, clusterWithin, needsMost};
+ghost use Rattle.clusters.specs.Table.{risingAbove, tableWithin, clustersMost};
+ghost use Rattle.clusters.specs.View.{viewCluster, viewTable};
+
+pub fn version_within(v: Version) -> bool
+    ensures { λ r. ⌜ r ≡ versionWithin v ⌝ }
+{
+    if v.first > PART_MOST {
+        return false;
+    }
+    if v.second > PART_MOST {
+        return false;
+    }
+    if v.third > PART_MOST {
+        return false;
+    }
+    v.fourth <= PART_MOST
+}
+
+// The largest part number is the largest of 32 bits.
+pub fn part_within(part: u32) -> bool
+    ensures { λ r. ⌜ r ≡ partWithin part ⌝ }
+{
+    1 <= part
+}
+
+pub fn need_within(n: Need) -> bool
+    ensures { λ r. ⌜ r ≡ needWithin n ⌝ }
+{
+    if !part_within(n.part) {
+        return false;
+    }
+    version_within(n.least)
+}
+
+// Whether each need of a cluster is within the limits. cluster_within checks their number before.
+fn needs_within(c: Cluster) -> bool
+    requires { ⌜ c .«need_count» ≤ needsMost ⌝ }
+    ensures { λ r. ⌜ r ≡ needsWithin (viewCluster c .needs) ⌝ }
+{
+    let count = c.need_count;
+    let mut i = 0;
+    while i < count {
+        let n = c.needs[i];
+        if !need_within(n) {
+            return false;
+        }
+        i += 1;
+    }
+    true
+}
+
+pub fn cluster_within(c: Cluster) -> bool
+    ensures { λ r. ⌜ r ≡ clusterWithin (viewCluster c) ⌝ }
+{
+    if !part_within(c.part) {
+        return false;
+    }
+    if !version_within(c.version) {
+        return false;
+    }
+    if c.need_count > NEEDS_MOST {
+        return false;
+    }
+    needs_within(c)
+}
+
+// Whether the clusters are within their limits and in rising part number. table_within checks their number before.
+fn rising(t: Table) -> bool
+    requires { ⌜ t .count ≤ clustersMost ⌝ }
+    ensures { λ r. ⌜ r ≡ risingAbove 0 (viewTable t) ⌝ }
+{
+    let count = t.count;
+    let mut last: u32 = 0;
+    let mut i = 0;
+    while i < count {
+        let c = t.clusters[i];
+        if c.part <= last {
+            return false;
+        }
+        if !cluster_within(c) {
+            return false;
+        }
+        last = c.part;
+        i += 1;
+    }
+    true
+}
+
+pub fn table_within(t: Table) -> bool
+    ensures { λ r. ⌜ r ≡ tableWithin (viewTable t) ⌝ }
+{
+    if t.count > CLUSTERS_MOST {
+        return false;
+    }
+    rising(t)
+}

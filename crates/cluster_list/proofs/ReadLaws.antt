@@ -1,0 +1,258 @@
+-- What the definitions of reading give, for each way that the code takes: chains of `let .. else`, the lines of both kinds, and one
+-- line after the other. x, y, r are calls' results. Assumes nothing.
+use Prim.Native.Nat.{ℕ, zero, suc, _+_, _-_, _≤_, _<_}
+use mathlib.Core.Path.{_≡_, refl, sym, ap, subst, _∙_}
+use mathlib.Core.Bool.{cond}
+use mathlib.Core.List.{List, [], _∷_}
+use mathlib.Core.Option.{Option, none, some}
+use native.Mathlib.Omega.{arith}
+use lib.ListN.{length, drop}
+use lib.Dec.{leb}
+use borrow.Author.Tests.{le-leb, lt-leb}
+use Rattle.text.specs.declared.cursor.Cursor.{Cursor}
+use Rattle.text.specs.declared.number.Number.{Number}
+use Rattle.text.specs.declared.number.Number.the-variants as number
+use Rattle.text.specs.declared.version.Version.{Version}
+use Rattle.text.specs.declared.version.VersionRead.{VersionRead}
+use Rattle.text.specs.declared.version.VersionRead.the-variants as version
+use Rattle.text.specs.Version.{wholeVersion}
+use Rattle.text.specs.Then.{andThen, andThenVersion}
+use Rattle.rows.specs.declared.line.Line.{Line}
+use Rattle.rows.specs.declared.line.Line.the-variants as line
+use Rattle.rows.specs.declared.columns.ClusterColumns.{ClusterColumns}
+use Rattle.rows.specs.declared.columns.ClusterColumnsRead.{ClusterColumnsRead}
+use Rattle.rows.specs.declared.columns.ClusterColumnsRead.the-variants as cluster-read
+use Rattle.rows.specs.Field.{cell}
+use Rattle.rows.specs.Line.{lineFrom, andThenLine}
+use Rattle.rows.specs.Columns.{andThenClusterColumns}
+use Rattle.rows.proofs.LineBounds.{line-at-after}
+use Rattle.clusters.specs.declared.cluster.Need.{Need}
+use Rattle.clusters.specs.declared.cluster.Cluster.{Cluster as ClusterStruct}
+use Rattle.clusters.specs.declared.table.Table.{Table as TableStruct}
+use Rattle.clusters.specs.Cluster.{Cluster, needsMost}
+use Rattle.clusters.specs.Table.{Table, risingAbove, tableWithin}
+use Rattle.clusters.specs.View.{viewCluster, viewTable}
+use Rattle.clusters.specs.Struct.{structCluster, structTable}
+use Rattle.clusters.specs.Exact.{newCluster, withNeed, emptyTable}
+use Rattle.clusters.proofs.Structs.{struct-new-cluster, struct-with-need, struct-empty, view-struct-cluster, view-struct}
+use Rattle.cluster_list.specs.declared.cells.NeedRead.{NeedRead}
+use Rattle.cluster_list.specs.declared.cells.NeedRead.the-variants as need
+use Rattle.cluster_list.specs.declared.read.ListRead.{ListRead}
+use Rattle.cluster_list.specs.declared.read.ListAnswer.the-variants.{WellFormed, IllFormed}
+use Rattle.cluster_list.specs.Cells.{partField, andThenNeed}
+use Rattle.cluster_list.specs.Read.{andThenSome, clusterAdded, needLine, clusterBegun, clusterLine, valueLine, valueLines, listRead, Built}
+use Rattle.cluster_list.proofs.ThenLaws.{no-byte, some-byte}
+use Rattle.cluster_list.proofs.Within.{Within, value-line-within}
+use Rattle.cluster_list.proofs.Built.{built-struct}
+
+-- ---- chains
+
+module _ (r : ListRead) where
+  module _ (x y : Number) (f : ℕ → Cursor → Option Table) (e : x ≡ y) where
+    pub read-stop : x ≡ number.IllFormed → r ≡ listRead none → r ≡ listRead (andThen none y f)
+    read-stop h g = rw (← e, h) g
+
+    pub read-on : (n : ℕ) (next : Cursor) → x ≡ number.Value n next → r ≡ listRead (f n next) → r ≡ listRead (andThen none y f)
+    read-on n next h g = rw (← e, h) g
+
+  module _ (x y : VersionRead) (f : Version → Cursor → Option Table) (e : x ≡ y) where
+    pub read-stop-version : x ≡ version.IllFormed → r ≡ listRead none → r ≡ listRead (andThenVersion none y f)
+    read-stop-version h g = rw (← e, h) g
+
+    pub read-on-version : (v : Version) (next : Cursor) → x ≡ version.Value v next → r ≡ listRead (f v next) → r ≡ listRead (andThenVersion none y f)
+    read-on-version v next h g = rw (← e, h) g
+
+  module _ (empty : Option Table) (x y : NeedRead) (f : Need → Option Table) (e : x ≡ y) where
+    pub read-stop-need : x ≡ need.IllFormed → r ≡ listRead none → r ≡ listRead (andThenNeed none empty y f)
+    read-stop-need h g = rw (← e, h) g
+
+    pub read-empty-need : x ≡ need.Empty → r ≡ listRead empty → r ≡ listRead (andThenNeed none empty y f)
+    read-empty-need h g = rw (← e, h) g
+
+    pub read-on-need : (n : Need) → x ≡ need.Filled n → r ≡ listRead (f n) → r ≡ listRead (andThenNeed none empty y f)
+    read-on-need n h g = rw (← e, h) g
+
+  module _ (x y : Line) (f : ℕ → Option Table) (e : x ≡ y) where
+    pub read-stop-line : x ≡ line.IllFormed → r ≡ listRead none → r ≡ listRead (andThenLine none y f)
+    read-stop-line h g = rw (← e, h) g
+
+    pub read-on-line : (next : Cursor) → x ≡ line.Ends next → r ≡ listRead (f (next .at)) → r ≡ listRead (andThenLine none y f)
+    read-on-line next h g = rw (← e, h) g
+
+  module _ (x y : ClusterColumnsRead) (f : ClusterColumns → Option Table) (e : x ≡ y) where
+    pub read-stop-columns : x ≡ cluster-read.IllFormed → r ≡ listRead none → r ≡ listRead (andThenClusterColumns none y f)
+    read-stop-columns h g = rw (← e, h) g
+
+    pub read-on-columns : (columns : ClusterColumns) → x ≡ cluster-read.Named columns → r ≡ listRead (f columns)
+        → r ≡ listRead (andThenClusterColumns none y f)
+    read-on-columns columns h g = rw (← e, h) g
+
+-- a reader of a field that is part of a text
+pub part-of-cell : (x : Number) (w v : List ℕ) → x ≡ partField w → w ≡ v → x ≡ partField v
+part-of-cell x w v e f = e ∙ ap partField f
+
+pub version-of-cell : (x : VersionRead) (w v : List ℕ) → x ≡ wholeVersion w → w ≡ v → x ≡ wholeVersion v
+version-of-cell x w v e f = e ∙ ap wholeVersion f
+
+-- ---- a cluster without a need, and with its first
+
+pub begun-with : (r : ListRead) (t : Table) (part : ℕ) (version : Version) (x y : NeedRead) → r ≡ listRead (clusterBegun t part version x) → x ≡ y
+    → r ≡ listRead (clusterBegun t part version y)
+begun-with r t part version x y e f = e ∙ ap (λ (z : NeedRead). listRead (clusterBegun t part version z)) f
+
+built-cluster : (x : ClusterStruct) (c : Cluster) → length (c .needs) ≤ needsMost → x ≡ structCluster c → viewCluster x ≡ c
+built-cluster x c h e = ap viewCluster e ∙ view-struct-cluster c h
+
+module _ (part : ℕ) (version : Version) (x : ClusterStruct) (e : x ≡ newCluster part version) where
+  new-struct : x ≡ structCluster (record { part = part; version = version; needs = [] })
+  new-struct = e ∙ struct-new-cluster part version
+
+  new-view : viewCluster x ≡ record { part = part; version = version; needs = [] }
+  new-view = built-cluster x (record { part = part; version = version; needs = [] }) (omega arith) new-struct
+
+  pub new-room : x .«need_count» < 4
+  unfolding newCluster
+  new-room = rw e (omega arith)
+
+  pub new-built : x ≡ structCluster (viewCluster x)
+  new-built = new-struct ∙ ap structCluster (sym new-view)
+
+  pub new-added : (r : ListRead) (t : Table) → r ≡ listRead (clusterAdded t (viewCluster x))
+      → r ≡ listRead (clusterAdded t (record { part = part; version = version; needs = [] }))
+  new-added r t f = f ∙ ap (λ (c : Cluster). listRead (clusterAdded t c)) new-view
+
+  module _ (n : Need) (y : ClusterStruct) (d : y ≡ withNeed x n) where
+    first-struct : y ≡ structCluster (record { part = part; version = version; needs = n ∷ [] })
+    first-struct =
+        d ∙ ap (λ (z : ClusterStruct). withNeed z n) new-struct
+        ∙ struct-with-need (record { part = part; version = version; needs = [] }) n (omega arith)
+
+    first-view : viewCluster y ≡ record { part = part; version = version; needs = n ∷ [] }
+    first-view = built-cluster y (record { part = part; version = version; needs = n ∷ [] }) (omega arith) first-struct
+
+    pub first-built : y ≡ structCluster (viewCluster y)
+    first-built = first-struct ∙ ap structCluster (sym first-view)
+
+    pub first-added : (r : ListRead) (t : Table) → r ≡ listRead (clusterAdded t (viewCluster y))
+        → r ≡ listRead (clusterAdded t (record { part = part; version = version; needs = n ∷ [] }))
+    first-added r t f = f ∙ ap (λ (c : Cluster). listRead (clusterAdded t c)) first-view
+
+-- ---- the two kinds of line: w and v are the fields cluster and version
+
+module _ (columns : ClusterColumns) (l : List ℕ) (t : Table) (r : ListRead) (w : List ℕ) (e : w ≡ cell (columns .cluster) l) where
+  pub by-cluster : 1 ≤ length w → r ≡ listRead (clusterLine columns l t) → r ≡ listRead (valueLine columns l t)
+  unfolding valueLine
+  by-cluster h g = rw (← e, some-byte w h) g
+
+  module _ (v : List ℕ) (d : v ≡ cell (columns .version) l) (h : length w < 1) where
+    pub by-version : 1 ≤ length v → r ≡ listRead (clusterLine columns l t) → r ≡ listRead (valueLine columns l t)
+    unfolding valueLine
+    by-version o g = rw (← e, ← d, no-byte w h, some-byte v o) g
+
+    pub by-neither : length v < 1 → r ≡ listRead (needLine columns l t) → r ≡ listRead (valueLine columns l t)
+    unfolding valueLine
+    by-neither o g = rw (← e, ← d, no-byte w h, no-byte v o) g
+
+pub ruleset read-chain = (read-stop, read-on, read-stop-version, read-on-version, read-stop-need, read-empty-need, read-on-need, read-stop-line, read-on-line, read-stop-columns, read-on-columns, part-of-cell, version-of-cell, begun-with, new-added, first-added)
+
+-- ---- one line after the other
+
+-- what an answer tells of what was read
+well-read : (r : ListRead) (y : Option Table) → r ≡ listRead y → r .answer ≡ WellFormed → Within y → (y ≡ some (viewTable (r .table))) × Built (r .table)
+unfolding listRead
+well-read r none e h w = absurd (let z : _≡_ {A = ℕ} 0 1 = cc in omega arith)
+well-read r (some t) e h w =
+    let table : r .table ≡ structTable t = ap (λ (x : ListRead). x .table) e in
+    (ap some (sym (ap viewTable table ∙ view-struct t w)), subst Built (sym table) (built-struct t w))
+
+ill-read : (r : ListRead) (y : Option Table) → r ≡ listRead y → r .answer ≡ IllFormed → y ≡ none
+unfolding listRead
+ill-read r none e h = refl
+ill-read r (some t) e h = absurd (let z : _≡_ {A = ℕ} 0 1 = cc in omega arith)
+
+-- as many steps as the text has bytes behind a position are enough, and more give the same
+steps-over : (steps : ℕ) (columns : ClusterColumns) (s : List ℕ) (at : ℕ) (t : Table) → length s ≤ at → valueLines steps columns s at t ≡ some t
+unfolding valueLines
+steps-over zero columns s at t h = rw (le-leb (length s) at h)
+steps-over (suc steps) columns s at t h = rw (le-leb (length s) at h)
+
+steps-enough : (k j : ℕ) (columns : ClusterColumns) (s : List ℕ) (at : ℕ) (t : Table) → length s ≤ at + k → length s ≤ at + j
+    → valueLines k columns s at t ≡ valueLines j columns s at t
+unfolding valueLines
+steps-enough zero j columns s at t h o = steps-over zero columns s at t (omega arith) ∙ sym (steps-over j columns s at t (omega arith))
+steps-enough (suc k) zero columns s at t h o = steps-over (suc k) columns s at t (omega arith) ∙ sym (steps-over zero columns s at t (omega arith))
+steps-enough (suc k) (suc j) columns s at t h o =
+    ap (cond (leb (length s) at) (some t))
+    (go (lineFrom 3 at (drop at s)) (valueLine columns (drop at s) t) refl
+    λ next u n. steps-enough k j columns s next u (omega arith) (omega arith))
+  where
+    go : (x : Line) (v : Option Table) → x ≡ lineFrom 3 at (drop at s)
+        → ((next : ℕ) (u : Table) → at < next → valueLines k columns s next u ≡ valueLines j columns s next u)
+        → andThenLine none x (λ next. andThenSome none v λ u. valueLines k columns s next u)
+        ≡ andThenLine none x (λ next. andThenSome none v λ u. valueLines j columns s next u)
+    go line.IllFormed v e ih = refl
+    go (line.Ends next) none e ih = refl
+    go (line.Ends next) (some u) e ih = ih (next .at) u (line-at-after s 3 at _ next e refl)
+
+-- the lines from a position on
+module _ (columns : ClusterColumns) (s : List ℕ) (at : ℕ) (t : Table) where
+  lines-step : at < length s → valueLines (length s) columns s at t
+      ≡ (andThenLine none (lineFrom 3 at (drop at s)) λ next. andThenSome none (valueLine columns (drop at s) t) λ u. valueLines (length s) columns s next u)
+  unfolding valueLines
+  lines-step h =
+      steps-enough (length s) (suc (length s)) columns s at t (omega arith) (omega arith)
+      ∙ rw (lt-leb (length s) at h)
+
+  module _ (whole : Option Table) (q : whole ≡ valueLines (length s) columns s at t) where
+    pub lines-over : length s ≤ at → whole ≡ some t
+    lines-over h = q ∙ steps-over (length s) columns s at t h
+
+    module _ (x : Line) (h : at < length s) (e : x ≡ lineFrom 3 at (drop at s)) where
+      pub lines-no-line : x ≡ line.IllFormed → whole ≡ none
+      lines-no-line f = q ∙ lines-step h ∙ rw (← e, f)
+
+      module _ (next : Cursor) (f : x ≡ line.Ends next) where
+        pub lines-no-value : valueLine columns (drop at s) t ≡ none → whole ≡ none
+        lines-no-value g = q ∙ lines-step h ∙ rw (← e, f, g)
+
+        pub lines-on : (u : Table) → valueLine columns (drop at s) t ≡ some u → whole ≡ valueLines (length s) columns s (next .at) u
+        lines-on u g = q ∙ lines-step h ∙ rw (← e, f, g)
+
+-- how far the code has read the lines from a position `from`: the lines from `at` on are left, after those of the table
+pub record Reading (s : List ℕ) (columns : ClusterColumns) (from : ℕ) (table : TableStruct) (at : ℕ) : Type 0 where
+  pub built : Built table
+  pub rest : valueLines (length s) columns s from [] ≡ valueLines (length s) columns s at (viewTable table)
+
+pub reading-begins : (s : List ℕ) (columns : ClusterColumns) (from : ℕ) (table : TableStruct) → table ≡ emptyTable → Reading s columns from table from
+reading-begins s columns from table e =
+    let struct : table ≡ structTable [] = e ∙ struct-empty in
+    record {
+      built = subst Built (sym struct) (built-struct [] (unfold tableWithin risingAbove in refl));
+      rest = ap (valueLines (length s) columns s from) (sym (ap viewTable struct ∙ view-struct [] (unfold tableWithin risingAbove in refl)));
+    }
+
+module _ (s : List ℕ) (columns : ClusterColumns) (from : ℕ) (table : TableStruct) (at : ℕ) (b : Reading s columns from table at) where
+  pub reading-over : length s ≤ at → record { answer = WellFormed; table = table } ≡ listRead (valueLines (length s) columns s from [])
+  unfolding listRead
+  reading-over h = rw (lines-over columns s at (viewTable table) _ (b .rest) h, ← b .built .cleared)
+
+  module _ (x : Line) (h : at < length s) (e : x ≡ lineFrom 3 at (drop at s)) where
+    pub reading-no-line : (r : ListRead) → x ≡ line.IllFormed → r ≡ listRead none → r ≡ listRead (valueLines (length s) columns s from [])
+    reading-no-line r f g = rw (lines-no-line columns s at (viewTable table) _ (b .rest) x h e f) g
+
+    module _ (next : Cursor) (f : x ≡ line.Ends next) where
+      pub reading-less : length s - next .at < length s - at
+      reading-less = omega (arith, line-at-after s 3 at x next e f)
+
+      module _ (r : ListRead) (g : r ≡ listRead (valueLine columns (drop at s) (viewTable table))) where
+        pub reading-no-value : (i : ListRead) → r .answer ≡ IllFormed → i ≡ listRead none → i ≡ listRead (valueLines (length s) columns s from [])
+        reading-no-value i o d =
+            rw (lines-no-value columns s at (viewTable table) _ (b .rest) x h e next f (ill-read r _ g o)) d
+
+        pub reading-on : r .answer ≡ WellFormed → Reading s columns from (r .table) (next .at)
+        reading-on o =
+            let found = well-read r _ g o (value-line-within columns (drop at s) (viewTable table) (b .built .within)) in
+            record {
+              built = found .1;
+              rest = lines-on columns s at (viewTable table) _ (b .rest) x h e next f (viewTable (r .table)) (found .0);
+            }

@@ -1,0 +1,209 @@
+-- Reading what was written gives the same table, cell by cell: a field, a line, the lines of a cluster's needs, the lines of the
+-- clusters. The clusters are read one behind the other, and `front` is what was read before them. Assumes nothing.
+use Prim.Native.Nat.{ℕ, zero, suc, _+_, _≤_, _<_}
+use mathlib.Core.Path.{_≡_, refl, sym, ap, _∙_}
+use mathlib.Core.Bool.{Bool, true, false, _&&_}
+use mathlib.Core.List.{List, [], _∷_, _++_, append-assoc, append-nil}
+use mathlib.Core.Option.{Option, none, some}
+use native.Mathlib.Omega.{arith}
+use lib.Dec.{leb, ltb}
+use lib.ListN.{length, drop, getD, length-drop, length-append}
+use borrow.Author.Tests.{le-leb, lt-leb, leb-true, ltb-true, le-ltb}
+use Rattle.base.specs.Quoted.{bytes, LF}
+use Rattle.base.proofs.Tests.{and-left, and-right, and-both}
+use Rattle.text.specs.declared.version.Version.{Version}
+use Rattle.text.specs.declared.number.Number.the-variants.{Value}
+use Rattle.text.specs.Number.{cursor}
+use Rattle.text.specs.Digits.{digits}
+use Rattle.text.specs.Version.{versionWithin, versionText}
+use Rattle.text.proofs.DigitLaws.{some-digit}
+use Rattle.text.proofs.Bytes.{each-nil}
+use Rattle.text.proofs.RoundTrip.{whole-number-back, whole-version-back, drop-past}
+use Rattle.rows.specs.declared.columns.ClusterColumns.{ClusterColumns}
+use Rattle.rows.specs.declared.line.Line.the-variants.{Ends}
+use Rattle.rows.specs.Field.{cell, isEmpty, fieldByte, plainField}
+use Rattle.rows.specs.Line.{lineFrom, lineText, plainFields}
+use Rattle.rows.proofs.Plain.{plain-digits, plain-version}
+use Rattle.rows.proofs.LineBack.{line-stands, cell-stands}
+use Rattle.rows.proofs.LineBounds.{line-at-after, line-at-inside}
+use Rattle.rows.proofs.NamesLine.{cluster-names-end, cluster-names-columns}
+use Rattle.clusters.specs.declared.cluster.Need.{Need}
+use Rattle.clusters.specs.Cluster.{Cluster, partWithin, needWithin, needsWithin, needsMost, clusterWithin}
+use Rattle.clusters.specs.Table.{Table, clustersMost, risingAbove, tableWithin}
+use Rattle.cluster_list.specs.declared.cells.NeedRead.the-variants.{Filled, Empty}
+use Rattle.cluster_list.specs.Cells.{partField, needOf}
+use Rattle.cluster_list.specs.Read.{lastPart, withNeed, needAdded, clusterAdded, needLine, clusterBegun, clusterLine, valueLine, valueLines, readList}
+use Rattle.cluster_list.specs.Write.{namesLine, needLineText, needLinesText, clusterLines, clustersText, writeList}
+use Rattle.cluster_list.proofs.ThenLaws.{some-byte}
+use Rattle.cluster_list.proofs.Last.{last-part, need-added, cluster-added}
+
+-- the columns of our writer
+abbrev written : ClusterColumns
+written = record { cluster = 0; version = 1; needs = 2; least = 3 }
+
+-- ---- fields
+
+pub part-back : (part : ℕ) → partWithin part ≡ true → partField (digits part) ≡ Value part (cursor (length (digits part)))
+unfolding partField partWithin
+part-back part h =
+    rw (
+      whole-number-back 4294967295 part (leb-true _ _ (and-right (leb 1 part) _ h)),
+      le-ltb part 1 (leb-true _ _ (and-left (leb 1 part) _ h)),
+    )
+
+pub part-some : (part : ℕ) → isEmpty (digits part) ≡ false
+part-some part = some-byte (digits part) (some-digit part)
+
+pub need-back : (n : Need) → needWithin n ≡ true → needOf (digits (n .part)) (versionText (n .least)) ≡ Filled n
+unfolding needOf needWithin
+need-back n h =
+    rw (
+      part-some (n .part),
+      part-back (n .part) (and-left (partWithin (n .part)) _ h),
+      whole-version-back (n .least) (and-right (partWithin (n .part)) _ h),
+    )
+
+pub no-need-back : needOf [] [] ≡ Empty
+unfolding needOf
+no-need-back = refl
+
+-- ---- a line, by its cells
+
+module _ (l : List ℕ) where
+  need-line-back : (t : Table) (n : Need) → needWithin n ≡ true
+      → cell 0 l ≡ [] → cell 1 l ≡ [] → cell 2 l ≡ digits (n .part) → cell 3 l ≡ versionText (n .least)
+      → valueLine written l t ≡ needAdded t n
+  unfolding valueLine needLine
+  need-line-back t n h e₀ e₁ e₂ e₃ = rw (e₀, e₁, e₂, e₃, need-back n h)
+
+  module _ (t : Table) (part : ℕ) (version : Version) (h : partWithin part ≡ true) (w : versionWithin version ≡ true)
+      (e₀ : cell 0 l ≡ digits part) (e₁ : cell 1 l ≡ versionText version) where
+    cluster-line-back : (n : Need) → needWithin n ≡ true → cell 2 l ≡ digits (n .part) → cell 3 l ≡ versionText (n .least)
+        → valueLine written l t ≡ clusterAdded t (record { part = part; version = version; needs = n ∷ [] })
+    unfolding valueLine clusterLine clusterBegun
+    cluster-line-back n o e₂ e₃ = rw (e₀, e₁, e₂, e₃, part-some part, part-back part h, whole-version-back version w, need-back n o)
+
+    bare-line-back : cell 2 l ≡ [] → cell 3 l ≡ []
+        → valueLine written l t ≡ clusterAdded t (record { part = part; version = version; needs = [] })
+    unfolding valueLine clusterLine clusterBegun
+    bare-line-back e₂ e₃ = rw (e₀, e₁, e₂, e₃, part-some part, part-back part h, whole-version-back version w, no-need-back)
+
+-- ---- a line of four fields that stands in a text, and then the lines behind it
+
+plain-line : (w x y z : List ℕ) → plainField w ≡ true → plainField x ≡ true → plainField y ≡ true → plainField z ≡ true
+    → plainFields (w ∷ x ∷ y ∷ z ∷ []) ≡ true
+unfolding plainFields
+plain-line w x y z a b c d = and-both _ _ a (and-both _ _ b (and-both _ _ c (and-both _ _ d refl)))
+
+-- the lines of s from a position on, where `rest` begins, read after those of t, give r
+abbrev GoesOn : List ℕ → List ℕ → Table → Option Table → Type 0
+GoesOn s rest t r = (at steps : ℕ) → drop at s ≡ rest → length s ≤ at + steps → valueLines steps written s at t ≡ r
+
+module _ (s : List ℕ) (at : ℕ) (w x y z rest : List ℕ)
+    (e : drop at s ≡ lineText (w ∷ x ∷ y ∷ z ∷ []) ++ rest) (h : plainFields (w ∷ x ∷ y ∷ z ∷ []) ≡ true) where
+  line-ends : lineFrom 3 at (drop at s) ≡ Ends (cursor (at + length (lineText (w ∷ x ∷ y ∷ z ∷ []))))
+  line-ends = line-stands s at w (x ∷ y ∷ z ∷ []) rest e h
+
+  cell-there : (k : ℕ) → k < 4 → cell k (drop at s) ≡ getD (w ∷ x ∷ y ∷ z ∷ []) k []
+  cell-there k o = cell-stands s at w (x ∷ y ∷ z ∷ []) rest e h k o
+
+  -- a line takes one step, and has at least one byte
+  line-step : (steps : ℕ) (t u : Table) (r : Option Table) → length s ≤ at + steps → valueLine written (drop at s) t ≡ some u
+      → GoesOn s rest u r → valueLines steps written s at t ≡ r
+  unfolding valueLines
+  line-step zero t u r o v go =
+      absurd (omega (arith, line-at-after s 3 at _ _ refl line-ends, line-at-inside s 3 at _ _ refl line-ends))
+  line-step (suc steps) t u r o v go =
+      rw (lt-leb (length s) at (omega (arith, line-at-after s 3 at _ _ refl line-ends, line-at-inside s 3 at _ _ refl line-ends)), line-ends, v)
+      (go _ steps (drop-past s at (lineText (w ∷ x ∷ y ∷ z ∷ [])) rest e) (omega (arith, line-at-after s 3 at _ _ refl line-ends)))
+
+-- ---- the lines of a cluster's needs
+
+-- a cluster with more needs
+abbrev withNeeds : Cluster → List Need → Cluster
+withNeeds c ns = record { part = c .part; version = c .version; needs = c .needs ++ ns }
+
+module _ (s : List ℕ) (front : Table) (rest : List ℕ) (r : Option Table) where
+  needs-back : (ns : List Need) (c : Cluster) → needsWithin ns ≡ true → length (c .needs) + length ns ≤ needsMost
+      → GoesOn s rest (front ++ withNeeds c ns ∷ []) r → GoesOn s (needLinesText ns ++ rest) (front ++ c ∷ []) r
+  unfolding needsWithin needLinesText needLineText
+  needs-back [] c h o go at steps e f = go′ at steps e f
+    where
+      go′ : GoesOn s rest (front ++ c ∷ []) r
+      go′ = rw append-nil at go
+  needs-back (n ∷ ns) c h o go at steps e f =
+      let y = digits (n .part) in
+      let z = versionText (n .least) in
+      let e′ : drop at s ≡ lineText ([] ∷ [] ∷ y ∷ z ∷ []) ++ (needLinesText ns ++ rest) = e ∙ append-assoc (needLineText n) (needLinesText ns) rest in
+      let plain : plainFields ([] ∷ [] ∷ y ∷ z ∷ []) ≡ true =
+      plain-line [] [] y z (each-nil fieldByte) (each-nil fieldByte) (plain-digits (n .part)) (plain-version (n .least)) in
+      let there = cell-there s at [] [] y z (needLinesText ns ++ rest) e′ plain in
+      line-step s at [] [] y z (needLinesText ns ++ rest) e′ plain steps (front ++ c ∷ []) (front ++ withNeed c n ∷ []) r f
+      (need-line-back (drop at s) (front ++ c ∷ []) n (and-left (needWithin n) _ h)
+      (there 0 (omega arith)) (there 1 (omega arith)) (there 2 (omega arith)) (there 3 (omega arith))
+      ∙ need-added c n front (omega arith))
+      (needs-back ns (withNeed c n) (and-right (needWithin n) _ h) (omega (arith, length-append (c .needs) (n ∷ []))) (rw append-assoc go))
+
+-- ---- the lines of a cluster
+
+module _ (s : List ℕ) (front : Table) (rest : List ℕ) (r : Option Table) (part : ℕ) (version : Version)
+    (h : partWithin part ≡ true) (w : versionWithin version ≡ true) (few : length front < clustersMost) (above : lastPart front < part) where
+  cluster-back : (ns : List Need) → needsWithin ns ≡ true → length ns ≤ needsMost
+      → GoesOn s rest (front ++ record { part = part; version = version; needs = ns } ∷ []) r
+      → GoesOn s (clusterLines (record { part = part; version = version; needs = ns }) ++ rest) front r
+  unfolding needsWithin clusterLines needLinesText
+  cluster-back [] n o go at steps e f =
+      let e′ : drop at s ≡ lineText (digits part ∷ versionText version ∷ [] ∷ [] ∷ []) ++ rest = e ∙ rw append-nil in
+      let plain : plainFields (digits part ∷ versionText version ∷ [] ∷ [] ∷ []) ≡ true =
+      plain-line (digits part) (versionText version) [] [] (plain-digits part) (plain-version version) (each-nil fieldByte) (each-nil fieldByte) in
+      let there = cell-there s at (digits part) (versionText version) [] [] rest e′ plain in
+      line-step s at (digits part) (versionText version) [] [] rest e′ plain steps front _ r f
+      (bare-line-back (drop at s) front part version h w
+      (there 0 (omega arith)) (there 1 (omega arith)) (there 2 (omega arith)) (there 3 (omega arith))
+      ∙ cluster-added front _ few above)
+      go
+  cluster-back (n ∷ ns) v o go at steps e f =
+      let y = digits (n .part) in
+      let z = versionText (n .least) in
+      let e′ : drop at s ≡ lineText (digits part ∷ versionText version ∷ y ∷ z ∷ []) ++ (needLinesText ns ++ rest) =
+      e ∙ append-assoc (lineText (digits part ∷ versionText version ∷ y ∷ z ∷ [])) (needLinesText ns) rest in
+      let plain : plainFields (digits part ∷ versionText version ∷ y ∷ z ∷ []) ≡ true =
+      plain-line (digits part) (versionText version) y z (plain-digits part) (plain-version version) (plain-digits (n .part)) (plain-version (n .least)) in
+      let there = cell-there s at (digits part) (versionText version) y z (needLinesText ns ++ rest) e′ plain in
+      line-step s at (digits part) (versionText version) y z (needLinesText ns ++ rest) e′ plain steps front _ r f
+      (cluster-line-back (drop at s) front part version h w (there 0 (omega arith)) (there 1 (omega arith))
+      n (and-left (needWithin n) _ v) (there 2 (omega arith)) (there 3 (omega arith))
+      ∙ cluster-added front _ few above)
+      (needs-back s front rest r ns (record { part = part; version = version; needs = n ∷ [] }) (and-right (needWithin n) _ v) (omega arith) go)
+
+-- ---- the whole list
+
+no-lines : (s : List ℕ) (at steps : ℕ) (t : Table) → length s ≤ at → valueLines steps written s at t ≡ some t
+unfolding valueLines
+no-lines s at zero t h = rw (le-leb (length s) at h)
+no-lines s at (suc steps) t h = rw (le-leb (length s) at h)
+
+module _ (s : List ℕ) where
+  clusters-back : (t front : Table) → risingAbove (lastPart front) t ≡ true → length front + length t ≤ clustersMost
+      → GoesOn s (clustersText t) front (some (front ++ t))
+  unfolding clustersText risingAbove clusterWithin
+  clusters-back [] front h o =
+      λ at steps e f. rw append-nil (no-lines s at steps front (omega (arith, ap length e, length-drop at s)))
+  clusters-back (c ∷ t) front h o =
+      let within : clusterWithin c ≡ true = and-left (clusterWithin c) _ (and-right (ltb (lastPart front) (c .part)) _ h) in
+      let rising : risingAbove (c .part) t ≡ true = and-right (clusterWithin c) _ (and-right (ltb (lastPart front) (c .part)) _ h) in
+      let behind-part = and-right (partWithin (c .part)) _ within in
+      let behind-version = and-right (versionWithin (c .version)) _ behind-part in
+      cluster-back s front (clustersText t) (some (front ++ c ∷ t)) (c .part) (c .version)
+      (and-left (partWithin (c .part)) _ within) (and-left (versionWithin (c .version)) _ behind-part)
+      (omega arith) (ltb-true _ _ (and-left (ltb (lastPart front) (c .part)) _ h))
+      (c .needs) (and-right (leb (length (c .needs)) needsMost) _ behind-version) (leb-true _ _ (and-left _ _ behind-version))
+      (rw append-assoc at (clusters-back t (front ++ c ∷ []) (rw last-part rising) (omega (arith, length-append front (c ∷ [])))))
+
+-- "for every table within the limits, reading what was written gives the same table"
+pub list-back : (t : Table) → tableWithin t ≡ true → readList (writeList t) ≡ some t
+unfolding readList writeList lineText lastPart tableWithin
+list-back t h =
+    rw (cluster-names-end (clustersText t) 0, cluster-names-columns (clustersText t))
+    (clusters-back (writeList t) t [] (and-right (leb (length t) clustersMost) _ h) (omega (arith, leb-true (length t) clustersMost (and-left _ _ h)))
+    28 (length (writeList t)) (drop-past (writeList t) 0 namesLine (clustersText t) refl) (omega arith))

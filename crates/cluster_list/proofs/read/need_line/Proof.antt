@@ -1,0 +1,54 @@
+-- `cluster_list::read::need_line` meets its contract: a need, and then the need added. Assumes nothing.
+use Rattle.cluster_list.specs.Read.{needLine}
+use Rattle.cluster_list.proofs.ReadLaws.{read-chain}
+use borrow.Author.Needs.{needs}
+use Rattle.cluster_list.proofs.read.need_line.Statement.{statement}
+use Rattle.cluster_list.proofs.read.need_line.Tie as tie
+
+need-fields-requires : tie.Need-need-fields-requires
+need-fields-requires c κs = search needs
+
+enum-known-need : tie.Need-enum-known-need
+enum-known-need c = search needs
+
+add-need-requires : tie.Need-add-need-requires
+add-need-requires c κs = search needs
+
+enum-told : tie.Need-enum-told
+enum-told c = search needs
+
+ill-formed-requires : tie.Need-ill-formed-requires
+ill-formed-requires c κs = search needs
+
+enum-told-2 : tie.Need-enum-told-2
+enum-told-2 c = search needs
+
+ill-formed-requires-2 : tie.Need-ill-formed-requires-2
+ill-formed-requires-2 c κs = search needs
+
+returns : tie.Need-returns
+unfolding needLine
+returns c = search read-chain depth 9
+
+returns-2 : tie.Need-returns-2
+unfolding needLine
+returns-2 c = search read-chain depth 9
+
+returns-3 : tie.Need-returns-3
+unfolding needLine
+returns-3 c = search read-chain depth 9
+
+pub need-line-spec : {M : Type 1} → statement M
+need-line-spec =
+    tie.close
+    (tie.spec
+    need-fields-requires
+    enum-known-need
+    add-need-requires
+    enum-told
+    ill-formed-requires
+    enum-told-2
+    ill-formed-requires-2
+    returns
+    returns-2
+    returns-3)

@@ -1,0 +1,5 @@
+pub mod ThenLaws
+pub mod HeadingLaws
+pub mod PackageLaws
+pub mod Within
+pub mod Payload

@@ -1,0 +1,173 @@
+-- What is read from a package's text is within the limits, the text with the payload is the whole area, and the struct that
+-- the code gives stands for it. Assumes nothing.
+use mathlib.Core.Path.{_≡_, refl, subst}
+use mathlib.Core.Bool.{true, _&&_}
+use mathlib.Core.List.{List, [], _∷_}
+use mathlib.Core.Option.{Option, none, some}
+use Prim.Native.Nat.{ℕ, zero, suc, _+_, _≤_}
+use native.Mathlib.Omega.{arith}
+use lib.Dec.{eqb}
+use lib.ListN.{length, drop, getD, length-append}
+use borrow.Author.Tests.{eqb-true}
+use Rattle.base.specs.Quoted.{LF}
+use Rattle.base.proofs.Tests.{cond-cases}
+use Rattle.text.specs.Number.{wholeNumber}
+use Rattle.text.specs.Version.{wholeVersion}
+use Rattle.text.proofs.ThenLaws.{then-cases, then-cases-version}
+use Rattle.text.proofs.Meaning.{whole-number-most, whole-version-limits}
+use Rattle.rows.specs.declared.columns.PackageColumns.{PackageColumns}
+use Rattle.rows.specs.Field.{cell}
+use Rattle.rows.specs.Line.{lineFrom}
+use Rattle.rows.specs.Columns.{packageColumns}
+use Rattle.rows.proofs.ThenLaws.{then-cases-line, then-cases-package-columns}
+use Rattle.clusters.specs.declared.cluster.Need.{Need}
+use Rattle.clusters.specs.declared.action.Change.{Change}
+use Rattle.clusters.specs.declared.action.Change.the-variants.{Install, Update, Remove}
+use Rattle.clusters.specs.Cluster.{Cluster, partWithin, needWithin, needsMost, clusterWithin}
+use Rattle.clusters.specs.Action.{actionWithin}
+use Rattle.clusters.specs.Struct.{structAction}
+use Rattle.clusters.proofs.Structs.{view-struct-action}
+use Rattle.clusters.specs.View.{viewAction, actionOf}
+use Rattle.cluster_list.specs.Cells.{partField, needFields}
+use Rattle.cluster_list.specs.Read.{withNeed}
+use Rattle.cluster_list.proofs.ThenLaws.{then-cases-need}
+use Rattle.cluster_list.proofs.CellsWithin.{part-read-within, need-read-within}
+use Rattle.cluster_list.proofs.Within.{then-cases-some, cluster-is-within, with-need-within, one-need-within, no-need-within}
+use Rattle.manifest.specs.Package.{Manifest, PackageRead, illFormed, inconsistent, consistent, changeOf, Heading, onlyPart, removeHeading, clusterHeading, headingOf, payloadHeading, firstLine, noCluster, noPayload, onlyNeed, Text, furtherLines, furtherMost, packageWith, readPackage}
+
+-- ---- the first value line
+
+-- the action within its limits, with room for the needs of the further lines that its change allows; payload count and sum
+pub record HeadingFacts (h : Heading) : Type 0 where
+  pub within : actionWithin (actionOf (h .change) (h .cluster)) ≡ true
+  pub room : length (h .cluster .needs) + furtherMost (h .change) ≤ needsMost
+  pub count : h .count ≤ 16777216
+  pub sum : h .sum ≤ 65535
+
+abbrev HeadingWithin : Option Heading → Type 0
+HeadingWithin none = Unit {0}
+HeadingWithin (some h) = HeadingFacts h
+
+-- a change that has a cluster
+data HasCluster : Change → Type 0 where
+  installs : HasCluster Install
+  updates : HasCluster Update
+
+action-fine : {change : Change} → HasCluster change → (c : Cluster) → clusterWithin c ≡ true → actionWithin (actionOf change c) ≡ true
+unfolding actionWithin
+action-fine installs c h = h
+action-fine updates c h = h
+
+further-three : {change : Change} → HasCluster change → furtherMost change ≡ 3
+further-three installs = refl
+further-three updates = refl
+
+module _ (columns : PackageColumns) (l : List ℕ) (part count sum : ℕ) (fine : partWithin part ≡ true) (few : count ≤ 16777216) (small : sum ≤ 65535) where
+  remove-within : HeadingWithin (removeHeading columns l part count sum)
+  unfolding removeHeading actionWithin
+  remove-within =
+      cond-cases HeadingWithin (onlyPart (columns .«cluster_columns») l && eqb count 0) _ _
+      (λ b. record { within = fine; room = omega arith; count = few; sum = small }) λ b. tt
+
+  cluster-within : (change : Change) → HasCluster change → HeadingWithin (clusterHeading change columns l part count sum)
+  unfolding clusterHeading
+  cluster-within change has =
+      then-cases-version HeadingWithin none (wholeVersion (cell (columns .«cluster_columns» .version) l)) _ tt λ version next e.
+      let version-fine = whole-version-limits (cell (columns .«cluster_columns» .version) l) version next _ refl e in
+      then-cases-need HeadingWithin none _ (needFields (columns .«cluster_columns») l) _ tt
+      (λ f. record {
+        within = action-fine has _ (cluster-is-within (record { part = part; version = version; needs = [] }) fine version-fine (omega arith) no-need-within);
+        room = rw (further-three has) (omega arith);
+        count = few;
+        sum = small;
+      })
+      λ n f. record {
+        within = action-fine has _ (cluster-is-within (record { part = part; version = version; needs = n ∷ [] }) fine version-fine (omega arith) (one-need-within n (need-read-within _ _ n f)));
+        room = rw (further-three has) (omega arith);
+        count = few;
+        sum = small;
+      }
+
+  heading-within : (change : Change) → HeadingWithin (headingOf change columns l part count sum)
+  heading-within Install = cluster-within Install installs
+  heading-within Update = cluster-within Update updates
+  heading-within Remove = remove-within
+
+first-line-within : (columns : PackageColumns) (l : List ℕ) → HeadingWithin (firstLine columns l)
+unfolding firstLine payloadHeading
+first-line-within columns l =
+    then-cases-some HeadingWithin none (changeOf (cell (columns .action) l)) _ tt λ change a.
+    then-cases HeadingWithin none (partField (cell (columns .«cluster_columns» .cluster) l)) _ tt λ part behind e.
+    then-cases HeadingWithin none (wholeNumber 16777216 (cell (columns .payload) l)) _ tt λ count behind-count f.
+    then-cases HeadingWithin none (wholeNumber 65535 (cell (columns .sum) l)) _ tt λ sum behind-sum g.
+    heading-within columns l part count sum
+    (part-read-within _ part behind e)
+    (whole-number-most 16777216 (cell (columns .payload) l) count behind-count _ refl f)
+    (whole-number-most 65535 (cell (columns .sum) l) sum behind-sum _ refl g)
+    change
+
+-- ---- the further value lines
+
+abbrev NeedIn : Option Need → Type 0
+NeedIn none = Unit {0}
+NeedIn (some n) = needWithin n ≡ true
+
+only-need-within : (columns : PackageColumns) (l : List ℕ) → NeedIn (onlyNeed columns l)
+unfolding onlyNeed
+only-need-within columns l =
+    cond-cases NeedIn (noPayload columns l && noCluster (columns .«cluster_columns») l) _ _
+    (λ b. then-cases-need NeedIn none none (needFields (columns .«cluster_columns») l) some tt (λ e. tt) λ n e. need-read-within _ _ n e)
+    λ b. tt
+
+abbrev TextWithin : Change → Option Text → Type 0
+TextWithin change none = Unit {0}
+TextWithin change (some t) = actionWithin (actionOf change (t .cluster)) ≡ true
+
+cluster-lines-within : (change : Change) → HasCluster change → (lines : ℕ) (columns : PackageColumns) (s : List ℕ) (at : ℕ) (c : Cluster)
+    → clusterWithin c ≡ true → length (c .needs) + lines ≤ needsMost → TextWithin change (furtherLines lines columns s at c)
+unfolding furtherLines
+cluster-lines-within change has zero columns s at c h r =
+    cond-cases (TextWithin change) (eqb (getD s at 0) LF) _ _ (λ b. action-fine has c h) λ b. tt
+cluster-lines-within change has (suc lines) columns s at c h r =
+    let ih : (next : ℕ) (d : Cluster) → clusterWithin d ≡ true → length (d .needs) + lines ≤ needsMost → TextWithin change (furtherLines lines columns s next d) = cluster-lines-within change has lines columns s in
+    cond-cases (TextWithin change) (eqb (getD s at 0) LF) _ _ (λ b. action-fine has c h) λ b.
+    then-cases-line (TextWithin change) none (lineFrom 6 at (drop at s)) _ tt λ next e.
+    then-cases-some (TextWithin change) none (onlyNeed columns (drop at s)) _ tt λ n f.
+    ih (next .at) (withNeed c n)
+    (with-need-within c n h (subst NeedIn f (only-need-within columns (drop at s))) (omega arith))
+    (rw (length-append (c .needs) (n ∷ [])) (omega arith))
+
+text-within : (change : Change) (columns : PackageColumns) (s : List ℕ) (at : ℕ) (c : Cluster) → actionWithin (actionOf change c) ≡ true
+    → length (c .needs) + furtherMost change ≤ needsMost → TextWithin change (furtherLines (furtherMost change) columns s at c)
+unfolding furtherLines actionWithin
+text-within Install columns s at c h r = cluster-lines-within Install installs 3 columns s at c h r
+text-within Update columns s at c h r = cluster-lines-within Update updates 3 columns s at c h r
+text-within Remove columns s at c h r = cond-cases (TextWithin Remove) (eqb (getD s at 0) LF) _ _ (λ b. h) λ b. tt
+
+-- ---- the whole area
+
+abbrev ReadWithin : List ℕ → PackageRead → Type 0
+ReadWithin s illFormed = Unit {0}
+ReadWithin s inconsistent = Unit {0}
+ReadWithin s (consistent m) = (actionWithin (m .action) ≡ true) × (m .start + m .count ≡ length s) × (m .count ≤ 16777216) × (m .sum ≤ 65535)
+
+package-within : (s : List ℕ) → ReadWithin s (readPackage s)
+unfolding readPackage packageWith
+package-within s =
+    then-cases-line (ReadWithin s) illFormed (lineFrom 6 0 s) _ tt λ first a.
+    then-cases-package-columns (ReadWithin s) illFormed (packageColumns 7 s) _ tt λ columns b.
+    then-cases-line (ReadWithin s) illFormed (lineFrom 6 (first .at) (drop (first .at) s)) _ tt λ next c.
+    then-cases-some (ReadWithin s) illFormed (firstLine columns (drop (first .at) s)) _ tt λ h d.
+    let facts : HeadingFacts h = subst HeadingWithin d (first-line-within columns (drop (first .at) s)) in
+    then-cases-some (ReadWithin s) illFormed (furtherLines (furtherMost (h .change)) columns s (next .at) (h .cluster)) _ tt λ t e.
+    let within = subst (TextWithin (h .change)) e (text-within (h .change) columns s (next .at) (h .cluster) (facts .within) (facts .room)) in
+    cond-cases (ReadWithin s) (eqb (t .start + h .count) (length s)) _ _ (λ f. (within, eqb-true _ _ f, facts .count, facts .sum)) λ f. tt
+
+-- what is read is within the limits, and text and payload are the whole area
+pub readPackage-within : (bytes : List ℕ) (m : Manifest) → readPackage bytes ≡ consistent m
+    → (actionWithin (m .action) ≡ true) × (m .start + m .count ≡ length bytes) × (m .count ≤ 16777216) × (m .sum ≤ 65535)
+readPackage-within bytes m e = subst (ReadWithin bytes) e (package-within bytes)
+
+-- and the action in the struct of the code stands for the action that was read
+pub readPackage-viewed : (bytes : List ℕ) (m : Manifest) → readPackage bytes ≡ consistent m → viewAction (structAction (m .action)) ≡ m .action
+readPackage-viewed bytes m e = view-struct-action (m .action) (readPackage-within bytes m e .0)

@@ -1,0 +1,36 @@
+-- The answer of the reader in the code.
+use Prim.Native.Nat.{ℕ}
+use Rattle.clusters.specs.declared.action.Action.{Action as ActionStruct}
+use Rattle.clusters.specs.declared.action.Change.the-variants.{Install}
+use Rattle.clusters.specs.Struct.{structAction, clearedCluster}
+use Rattle.manifest.specs.declared.package.PackageAnswer.{PackageAnswer}
+use Rattle.manifest.specs.declared.package.PackageAnswer.the-variants.{Consistent, IllFormed, Inconsistent}
+use Rattle.manifest.specs.declared.package.PackageRead.{PackageRead as PackageReadStruct}
+use Rattle.manifest.specs.Package.{PackageRead, illFormed, inconsistent, consistent}
+
+-- "9. InvalidManifest .. text before the payload ill-formed", "10. PackageInconsistent .. bytes behind the empty line aren't
+-- exactly the payload count", and 0 for neither
+abbrev pub refusalNumber : PackageRead → ℕ
+refusalNumber illFormed = 9
+refusalNumber inconsistent = 10
+refusalNumber (consistent m) = 0
+
+-- the numbers of the code's answers
+abbrev pub answerNumber : PackageAnswer → ℕ
+answerNumber Consistent = 0
+answerNumber IllFormed = 9
+answerNumber Inconsistent = 10
+
+-- an action with every number 0 and no needs
+abbrev pub clearedAction : ActionStruct
+clearedAction = record { change = Install; cluster = clearedCluster }
+
+abbrev pub cleared : PackageAnswer → PackageReadStruct
+cleared answer = record { answer = answer; action = clearedAction; start = 0; count = 0; sum = 0 }
+
+-- what was read as the struct of the code, unused places cleared
+unfoldable pub packageRead : PackageRead → PackageReadStruct
+packageRead illFormed = cleared IllFormed
+packageRead inconsistent = cleared Inconsistent
+packageRead (consistent m) =
+    record { answer = Consistent; action = structAction (m .action); start = m .start; count = m .count; sum = m .sum }

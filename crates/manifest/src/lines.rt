@@ -1,0 +1,84 @@
+// The lines of a package behind the first value line.
+ghost use mathlib.Core.Path.{_≡_};
+ghost use lib.Dec.{eqb};
+ghost use lib.ListN.{drop, getD};
+ghost use Rattle.base.specs.Quoted.{LF};
+ghost use Rattle.rows.specs.Field.{cell, isEmpty};
+ghost use Rattle.manifest.specs.Package.{noCluster, noPayload, onlyNeed};
+ghost use Rattle.manifest.specs.Found.{needFound};
+use cluster_list::cells::NeedRead;
+use cluster_list::cells::need_fields;
+use clusters::cluster::Need;
+use rows::columns::ClusterColumns;
+use rows::columns::PackageColumns;
+use rows::field::cell_at;
+use text::cursor::Cursor;
+
+// What reading a value line behind the first finds.
+pub enum NeedLine {
+    Value(Need),
+    IllFormed,
+}
+
+// Whether field number k of the line at a cursor is empty.
+pub fn cell_is_empty(s: &[u8], line: Cursor, k: usize) -> bool
+    ensures { λ r. ⌜ r ≡ isEmpty (cell k (drop (line .at) (now (s .entry)))) ⌝ }
+{
+    let field = cell_at(s, line, k);
+    if field.len() < 1 {
+        return true;
+    }
+    false
+}
+
+// Whether the empty line stands at a cursor.
+pub fn is_empty_line(s: &[u8], line: Cursor) -> bool
+    ensures { λ r. ⌜ r ≡ eqb (getD (now (s .entry)) (line .at) 0) LF ⌝ }
+{
+    let at = line.at;
+    if s.len() <= at {
+        return false;
+    }
+    s[at] == b'\n'
+}
+
+// Whether cluster and version of the line at a cursor are empty.
+fn no_cluster(s: &[u8], line: Cursor, columns: ClusterColumns) -> bool
+    ensures { λ r. ⌜ r ≡ noCluster columns (drop (line .at) (now (s .entry))) ⌝ }
+{
+    if !cell_is_empty(s, line, columns.cluster) {
+        return false;
+    }
+    cell_is_empty(s, line, columns.version)
+}
+
+// Whether action, payload and sum of the line at a cursor are empty.
+fn no_payload(s: &[u8], line: Cursor, columns: PackageColumns) -> bool
+    ensures { λ r. ⌜ r ≡ noPayload columns (drop (line .at) (now (s .entry))) ⌝ }
+{
+    if !cell_is_empty(s, line, columns.action) {
+        return false;
+    }
+    if !cell_is_empty(s, line, columns.payload) {
+        return false;
+    }
+    cell_is_empty(s, line, columns.sum)
+}
+
+// The need of a value line behind the first, at a cursor.
+pub fn only_need(s: &[u8], line: Cursor, columns: PackageColumns) -> NeedLine
+    ensures { λ r. ⌜ needFound r ≡ onlyNeed columns (drop (line .at) (now (s .entry))) ⌝ }
+{
+    if !no_payload(s, line, columns) {
+        return NeedLine::IllFormed;
+    }
+    let cluster_columns = columns.cluster_columns;
+    if !no_cluster(s, line, cluster_columns) {
+        return NeedLine::IllFormed;
+    }
+    match need_fields(s, line, cluster_columns) {
+        NeedRead::Filled(need) => NeedLine::Value(need),
+        NeedRead::Empty => NeedLine::IllFormed,
+        NeedRead::IllFormed => NeedLine::IllFormed,
+    }
+}

@@ -1,0 +1,173 @@
+-- The claims of demand 3 and of document 01's words about the store, each with its words and one statement: from an accepted Load,
+-- over every list of calls, each handed the state and store that the one before left. A list of calls is any list, so what holds
+-- after every list holds after every call. Assumes nothing.
+use mathlib.Core.Path.{_≡_, sym, ap, subst, _∙_}
+use mathlib.Core.Bool.{true, false}
+use mathlib.Core.List.{List, [], _∷_, _++_, List·Memᴰ}
+use mathlib.Core.Logic.{_↔_, _⊎_}
+use mathlib.Core.Option.{some}
+use Prim.Native.Nat.{ℕ, _+_, _-_, _≤_}
+use lib.ListN.{length, drop, replicate}
+use Rattle.clusters.specs.Action.{applyAll}
+use Rattle.cluster_list.specs.Read.{readList}
+use Rattle.model.specs.State.{Package, isIdle, State, Store}
+use Rattle.model.specs.Calls.{Call, done, refused, accepted}
+use Rattle.model.specs.Areas.{declared, free, find, areaOf}
+use Rattle.model.specs.Tables.{running}
+use Rattle.model.specs.Sound.{storeMost, idMost, sound}
+use Rattle.model.specs.Step.{Outcome, outcome, step}
+use Rattle.model.specs.Load.{tableOr, loadedState, load}
+use Rattle.model.specs.Run.{Made, Run, run, acceptedOnly, callsOf}
+use Rattle.model.specs.Journal.{Journal, opened, journal}
+use Rattle.model.specs.Reading.{clusterInfo}
+use Rattle.model.specs.Demand3.{Undone, TableAtReturn, sessionGoesOn, mayWriteStore, AgreesWith, Demand3}
+use Rattle.model.proofs.soundness.KeptSound.{step-sound}
+use Rattle.model.proofs.soundness.RunningWithin.{info-loads}
+use Rattle.model.proofs.transitions.Refused as refusing
+use Rattle.model.proofs.journal.Lists.{state-last, store-last}
+use Rattle.model.proofs.journal.Returns.{idle-table}
+use Rattle.model.proofs.journal.Demand3 as every
+use Rattle.model.proofs.journal.SessionTable.{session-beginning}
+use Rattle.model.proofs.journal.Opened.{load-invariant, load-length}
+
+-- "After a refusal they hold what they held before, the state comes back equal": on any state and store
+pub refused-changes-nothing : (s : State) (store : Store) (call : Call) (number : ℕ) → step s store call .reply ≡ refused number
+    → (step s store call .state ≡ s) × (step s store call .store ≡ store)
+refused-changes-nothing = refusing.refused-changes-nothing
+
+-- every call on a sound state gives a sound state, whatever bytes the store holds
+pub soundness-is-kept : (s : State) (store : Store) (call : Call) → sound s store ≡ true
+    → sound (step s store call .state) (step s store call .store) ≡ true
+soundness-is-kept = step-sound
+
+-- demand 2, "the cluster list that we write loads back as the same table": Load of what ClusterInfo gives of a sound state is
+-- accepted, and its table is the running one
+pub cluster-info-loads-back : (s : State) (store : Store) → sound s store ≡ true
+    → (given : State) (first : ℕ) (lent : Store) → 1 ≤ first → first ≤ idMost → length lent ≤ storeMost
+    → load given (clusterInfo s) first lent ≡ outcome done (loadedState (running s) first) (replicate (length lent) 0)
+cluster-info-loads-back = info-loads
+
+-- "from an accepted Load": any state handed in, any list, first id and store with which it is accepted
+module _ (given : State) (list : List ℕ) (first : ℕ) (lent : Store)
+    (is-accepted : load given list first lent .reply ≡ accepted done) where
+  abbrev pub loaded : Outcome
+  loaded = load given list first lent
+
+  -- "For every list of TransferStart, TransferData, .. and Report, refused ones included, .. each handed the state and store that
+  -- the one before left, with nobody else writing them"
+  abbrev pub after : List Call → Run
+  after calls = run (loaded .state) (loaded .store) calls
+
+  -- document 01's book of these calls: "Tables B and R start as the loaded one"
+  abbrev pub journalOf : List Call → Journal
+  journalOf calls = journal (opened (tableOr (readList list))) (after calls .made)
+
+  abbrev pub packagesAfter : List Call → List Package
+  packagesAfter calls = after calls .state .transfers .packages
+
+  demand3 : (calls : List Call) → Demand3 (opened (tableOr (readList list))) (loaded .state) (loaded .store) calls
+  demand3 calls = every.demand3-from _ _ _ (load-invariant given list first lent is-accepted) calls
+
+  agrees : (calls : List Call) → AgreesWith (journalOf calls) (after calls .state) (after calls .store)
+  agrees calls = demand3 calls .afterwards
+
+  -- ---- the running table
+
+  -- "After every call it is the one that document 01's book gives."
+  pub running-is-R : (calls : List Call) → running (after calls .state) ≡ journalOf calls .R
+  running-is-R calls = agrees calls .runningIsR
+
+  -- "B, up to the return that ends a session, is that session's beginning table."
+  pub beginning-is-B : (calls : List Call) → after calls .state .session .beginning ≡ journalOf calls .B
+  beginning-is-B calls = agrees calls .beginningIsB
+
+  -- "Idle is reached at these returns only."
+  pub idle-agrees : (calls : List Call) → isIdle (after calls .state .phase) ≡ journalOf calls .isIdle
+  idle-agrees calls = agrees calls .idleAgrees
+
+  -- "the table when that session began": B of a session is the running table of the Idle state that it began from
+  pub B-is-the-table-when-the-session-began : (calls session : List Call) → isIdle (after calls .state .phase) ≡ true
+      → sessionGoesOn (after calls .state) (after calls .store) session ≡ true
+      → journalOf (calls ++ session) .B ≡ running (after calls .state)
+  unfolding running
+  B-is-the-table-when-the-session-began calls session e h =
+      sym (beginning-is-B (calls ++ session)) ∙ session-beginning (loaded .state) (loaded .store) calls session h ∙ sym (idle-table _ _ e)
+
+  -- the call that returns to Idle, after a list of calls that does not end in Idle
+  returning : (calls : List Call) (call : Call) → isIdle (after calls .state .phase) ≡ false
+      → isIdle (after (calls ++ call ∷ []) .state .phase) ≡ true
+      → TableAtReturn (journalOf calls) call (running (after (calls ++ call ∷ []) .state))
+  returning calls call busy e =
+      subst (λ (s : State). isIdle (s .phase) ≡ true → TableAtReturn (journalOf calls) call (running s))
+      (sym (state-last (loaded .state) (loaded .store) calls call)) (agrees calls .atReturn call busy) e
+
+  -- "at each return to Idle, the running table and the table when that session began are equal exactly when the session ended by
+  -- Revert, by Finish after a Rollback that was completed, or with no package processed."
+  pub equal-exactly-when-undone : (calls : List Call) (call : Call) → isIdle (after calls .state .phase) ≡ false
+      → isIdle (after (calls ++ call ∷ []) .state .phase) ≡ true
+      → (running (after (calls ++ call ∷ []) .state) ≡ journalOf calls .B) ↔ Undone (journalOf calls) call
+  equal-exactly-when-undone calls call busy e = returning calls call busy e .equalExactlyWhen
+
+  -- "Otherwise the running table is the beginning table with the processed packages' actions applied in processing order."
+  pub otherwise-all-applied : (calls : List Call) (call : Call) → isIdle (after calls .state .phase) ≡ false
+      → isIdle (after (calls ++ call ∷ []) .state .phase) ≡ true → (Undone (journalOf calls) call → ⊥)
+      → running (after (calls ++ call ∷ []) .state) ≡ applyAll (journalOf calls .B) (journalOf calls .A)
+  otherwise-all-applied calls call busy e = returning calls call busy e .otherwise
+
+  -- "After every other call it is the beginning table or that one with the actions processed by then, and no third."
+  pub no-third-table : (calls : List Call)
+      → (running (after calls .state) ≡ journalOf calls .B) ⊎ (running (after calls .state) ≡ applyAll (journalOf calls .B) (journalOf calls .A))
+  no-third-table calls = agrees calls .noThird
+
+  -- ---- refused calls
+
+  -- the calls of a list that were not refused
+  abbrev pub unrefused : List Call → List Call
+  unrefused calls = callsOf (acceptedOnly (after calls .made))
+
+  -- "The list without its refused calls, from the same start, gives every other call the same answer"
+  pub same-answers : (calls : List Call) → after (unrefused calls) .made ≡ acceptedOnly (after calls .made)
+  same-answers calls = ap (λ (r : Run). r .made) (demand3 calls .withoutRefused)
+
+  -- "and ends with equal state and store."
+  pub equal-state : (calls : List Call) → after (unrefused calls) .state ≡ after calls .state
+  equal-state calls = ap (λ (r : Run). r .state) (demand3 calls .withoutRefused)
+
+  pub equal-store : (calls : List Call) → after (unrefused calls) .store ≡ after calls .store
+  equal-store calls = ap (λ (r : Run). r .store) (demand3 calls .withoutRefused)
+
+  -- "BadState: .. the state isn't sound": from Load on it is, so no call of the list is refused by 1
+  pub sound-after-every-call : (calls : List Call) → sound (after calls .state) (after calls .store) ≡ true
+  sound-after-every-call calls = agrees calls .staysSound
+
+  pub no-call-refused-by-1 : (calls : List Call) (m : Made) → List·Memᴰ m (after calls .made) → m .reply ≡ refused 1 → ⊥
+  no-call-refused-by-1 calls = every.never-refused-by-1 calls _ _ _ (load-invariant given list first lent is-accepted)
+
+  -- ---- the store
+
+  -- "Only Load, an accepted block and deleting write the store."
+  pub no-other-call-writes : (calls : List Call) (call : Call) → mayWriteStore (after calls .state .phase) call ≡ false
+      → after (calls ++ call ∷ []) .store ≡ after calls .store
+  no-other-call-writes calls call e = store-last (loaded .state) (loaded .store) calls call ∙ agrees calls .storeStays call e
+
+  -- "The block is written directly behind the bytes received so far"; "bytes not yet received .. are 0": an area is the accepted
+  -- blocks of its id, joined, and 0 up to its size
+  pub areas-hold-their-blocks : (calls : List Call) (id : ℕ) (p : Package) → find id (packagesAfter calls) ≡ some p
+      → areaOf id (packagesAfter calls) (after calls .store) ≡ journalOf calls .blocks id ++ replicate (p .size - p .received) 0
+  areas-hold-their-blocks calls = agrees calls .areaHolds
+
+  pub received-is-their-length : (calls : List Call) (id : ℕ) (p : Package) → find id (packagesAfter calls) ≡ some p
+      → length (journalOf calls .blocks id) ≡ p .received
+  received-is-their-length calls = agrees calls .receivedIsJoined
+
+  -- "and bytes past the last area are 0."
+  pub past-the-last-area-is-0 : (calls : List Call)
+      → drop (declared (packagesAfter calls)) (after calls .store) ≡ replicate (free (packagesAfter calls) (after calls .store)) 0
+  past-the-last-area-is-0 calls = agrees calls .endHolds
+
+  -- "Declared sizes plus free bytes equal the store's length", which no call changes.
+  pub declared-plus-free-is-the-length : (calls : List Call)
+      → declared (packagesAfter calls) + free (packagesAfter calls) (after calls .store) ≡ length lent
+  declared-plus-free-is-the-length calls =
+      agrees calls .declaredPlusFree ∙ every.length-stays calls (loaded .state) (loaded .store)
+      ∙ load-length given list first lent is-accepted

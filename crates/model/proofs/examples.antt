@@ -1,0 +1,6 @@
+-- Examples of document 01 that hold by computation.
+pub mod Transcript
+pub mod BenchExamples
+pub mod Sessions
+pub mod NearMisses
+pub mod Permitted

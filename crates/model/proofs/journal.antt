@@ -1,0 +1,11 @@
+-- The invariant that ties state and store to the journal, the induction over a list of calls, and what follows.
+pub mod ProcessingId
+pub mod Invariant
+pub mod InvariantTables
+pub mod InvariantKept
+pub mod Opened
+pub mod Lists
+pub mod Returns
+pub mod NeverUnsound
+pub mod SessionTable
+pub mod Demand3

@@ -1,0 +1,5 @@
+-- The accepted transitions as one type, and refused calls.
+pub mod Transitions
+pub mod AcceptingPackages
+pub mod Accepting
+pub mod Refused

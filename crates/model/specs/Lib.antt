@@ -1,0 +1,13 @@
+pub mod State
+pub mod Calls
+pub mod Permissions
+pub mod Areas
+pub mod Tables
+pub mod Sound
+pub mod Step
+pub mod Load
+pub mod Run
+pub mod Journal
+pub mod Reading
+pub mod Demand3
+pub mod Open

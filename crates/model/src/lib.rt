@@ -1,0 +1,1 @@
+// No functions: the manager as definitions, and demand 3 proved of them.

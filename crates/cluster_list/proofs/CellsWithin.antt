@@ -1,16 +1,14 @@
 -- A part number and a need that were read are within the limits. Assumes nothing.
 use mathlib.Core.Path.{_≡_, refl, subst}
-use mathlib.Core.Bool.{Bool, true, false, cond, _&&_}
-use mathlib.Core.List.{List, [], _∷_}
-use Prim.Native.Nat.{ℕ, _≤_}
-use native.Mathlib.Omega.{arith}
+use mathlib.Core.Bool.{true}
+use mathlib.Core.List.{List}
+use Prim.Native.Nat.{ℕ}
 use lib.Dec.{leb, ltb}
 use borrow.Author.Tests.{ltb-false, le-leb}
 use Rattle.base.proofs.Tests.{and-both, cond-cases}
 use Rattle.text.specs.declared.cursor.Cursor.{Cursor}
 use Rattle.text.specs.declared.number.Number.{Number}
 use Rattle.text.specs.declared.number.Number.the-variants as number
-use Rattle.text.specs.declared.version.Version.{Version}
 use Rattle.text.specs.Number.{wholeNumber}
 use Rattle.text.specs.Version.{wholeVersion}
 use Rattle.text.proofs.ThenLaws.{then-cases, then-cases-version}

@@ -1,15 +1,14 @@
 -- Reading what was written gives the same table, cell by cell: a field, a line, the lines of a cluster's needs, the lines of the
 -- clusters. The clusters are read one behind the other, and `front` is what was read before them. Assumes nothing.
 use Prim.Native.Nat.{ℕ, zero, suc, _+_, _≤_, _<_}
-use mathlib.Core.Path.{_≡_, refl, sym, ap, _∙_}
-use mathlib.Core.Bool.{Bool, true, false, _&&_}
+use mathlib.Core.Path.{_≡_, refl, ap, _∙_}
+use mathlib.Core.Bool.{true, false}
 use mathlib.Core.List.{List, [], _∷_, _++_, append-assoc, append-nil}
-use mathlib.Core.Option.{Option, none, some}
+use mathlib.Core.Option.{Option, some}
 use native.Mathlib.Omega.{arith}
 use lib.Dec.{leb, ltb}
 use lib.ListN.{length, drop, getD, length-drop, length-append}
 use borrow.Author.Tests.{le-leb, lt-leb, leb-true, ltb-true, le-ltb}
-use Rattle.base.specs.Quoted.{bytes, LF}
 use Rattle.base.proofs.Tests.{and-left, and-right, and-both}
 use Rattle.text.specs.declared.version.Version.{Version}
 use Rattle.text.specs.declared.number.Number.the-variants.{Value}

@@ -1,15 +1,14 @@
 -- A table that was read from a list is within the limits: each value line keeps it so. Assumes nothing.
-use mathlib.Core.Path.{_≡_, refl, sym, ap, subst, _∙_}
-use mathlib.Core.Bool.{Bool, true, false, cond, _&&_}
+use mathlib.Core.Path.{_≡_, refl, ap, subst, _∙_}
+use mathlib.Core.Bool.{true, _&&_}
 use mathlib.Core.List.{List, [], _∷_, _++_}
 use mathlib.Core.Option.{Option, none, some}
 use Prim.Native.Nat.{ℕ, zero, suc, _+_, _≤_, _<_}
 use native.Mathlib.Omega.{arith}
 use lib.Dec.{leb}
 use lib.ListN.{length, drop, length-append}
-use borrow.Author.Tests.{leb-true, leb-false, le-leb}
+use borrow.Author.Tests.{leb-false, le-leb}
 use Rattle.base.proofs.Tests.{and-left, and-right, and-both, cond-cases}
-use Rattle.text.specs.declared.version.Version.{Version}
 use Rattle.text.specs.Version.{wholeVersion, versionWithin}
 use Rattle.text.proofs.ThenLaws.{then-cases, then-cases-version}
 use Rattle.text.proofs.Meaning.{whole-version-limits}
@@ -21,13 +20,12 @@ use Rattle.rows.proofs.ThenLaws.{then-cases-line, then-cases-cluster-columns}
 use Rattle.clusters.specs.declared.cluster.Need.{Need}
 use Rattle.clusters.specs.Cluster.{Cluster, partWithin, needWithin, needsWithin, needsMost, clusterWithin}
 use Rattle.clusters.specs.Table.{Table, risingAbove, tableWithin, clustersMost}
-use Rattle.clusters.proofs.Limits.{Rising, rising-says, rising-is, few-clusters, rising-clusters}
+use Rattle.clusters.proofs.Limits.{rising-says, rising-is, few-clusters, rising-clusters}
 use Rattle.clusters.specs.View.{viewTable}
-use Rattle.clusters.specs.Struct.{structTable}
 use Rattle.clusters.proofs.Structs.{view-struct}
 use Rattle.cluster_list.specs.declared.read.ListRead.{ListRead}
 use Rattle.cluster_list.specs.Cells.{partField, needFields}
-use Rattle.cluster_list.specs.Read.{andThenSome, lastPart, clusterAdded, withNeed, needAdded, needLine, clusterBegun, clusterLine, valueLine, valueLines, readList, listRead}
+use Rattle.cluster_list.specs.Read.{andThenSome, lastPart, clusterAdded, withNeed, needAdded, needLine, clusterBegun, clusterLine, valueLine, valueLines, readList, listRead, tableRead}
 use Rattle.cluster_list.proofs.ThenLaws.{then-cases-need}
 use Rattle.cluster_list.proofs.CellsWithin.{part-read-within, need-read-within}
 
@@ -190,3 +188,12 @@ list-read-within s r e = go (readList s) (list-within s) (ap (λ (x : ListRead).
     go : (o : Option Table) → Within o → r .table ≡ listRead o .table → tableWithin (viewTable (r .table)) ≡ true
     go none w f = rw (f, view-struct [] (unfold tableWithin risingAbove in refl)) (unfold tableWithin risingAbove in refl)
     go (some t) w f = rw (f, view-struct t w) w
+
+-- what the answer says is what the definition reads
+pub table-read : (s : List ℕ) (r : ListRead) → r ≡ listRead (readList s) → tableRead r ≡ readList s
+unfolding listRead
+table-read s r e = ap tableRead e ∙ go (readList s) (list-within s)
+  where
+    go : (o : Option Table) → Within o → tableRead (listRead o) ≡ o
+    go none w = refl
+    go (some t) w = ap some (view-struct t w)

@@ -21,6 +21,7 @@ use Rattle.clusters.specs.View.{viewTable}
 use Rattle.clusters.specs.Struct.{structTable}
 use Rattle.cluster_list.specs.declared.cells.NeedRead.{NeedRead}
 use Rattle.cluster_list.specs.declared.read.ListRead.{ListRead}
+use Rattle.cluster_list.specs.declared.read.ListAnswer.{ListAnswer}
 use Rattle.cluster_list.specs.declared.read.ListAnswer.the-variants.{WellFormed, IllFormed}
 use Rattle.cluster_list.specs.Cells.{partField, needFields, andThenNeed}
 
@@ -86,6 +87,14 @@ readList s =
     andThenLine none (lineFrom 3 0 s) λ next.
     andThenClusterColumns none (clusterColumns 4 s) λ columns.
     valueLines (length s) columns s next []
+
+-- what each case of the reader's answer says: the table beside it, or ill-formed
+abbrev pub answered : ListAnswer → TableStruct → Option Table
+answered WellFormed t = some (viewTable t)
+answered IllFormed t = none
+
+abbrev pub tableRead : ListRead → Option Table
+tableRead r = answered (r .answer) (r .table)
 
 -- the answer of the reader in the code: the table with its unused places cleared
 unfoldable pub listRead : Option Table → ListRead

@@ -3,7 +3,6 @@ use Prim.Native.Nat.{ℕ}
 use mathlib.Core.List.{List, [], _∷_, _++_}
 use lib.ListN.{drop}
 use Rattle.base.specs.Quoted.{bytes}
-use Rattle.text.specs.declared.version.Version.{Version}
 use Rattle.text.specs.Digits.{digits}
 use Rattle.text.specs.Version.{versionText}
 use Rattle.rows.specs.Line.{lineText}

@@ -5,14 +5,16 @@ ghost use mathlib.Core.Option.{none};
 ghost use lib.ListN.{length, drop};
 ghost use Rattle.clusters.specs.View.{viewCluster, viewTable};
 ghost use Rattle.clusters.specs.Struct.{structCluster};
-ghost use Rattle.cluster_list.specs.Read.{lastPart, clusterAdded, needAdded, needLine, clusterBegun, clusterLine, valueLine, valueLines, readList, listRead, Built};
+ghost use Rattle.cluster_list.specs.Read.{lastPart, clusterAdded, needAdded, needLine, clusterBegun, clusterLine, valueLine, valueLines, readList, tableRead, listRead, Built};
 use crate::cells::NeedRead;
 use crate::cells::need_fields;
 use crate::cells::part_field;
 use clusters::cluster::Cluster;
+use clusters::cluster::NEEDS_MOST;
 use clusters::cluster::Need;
 use clusters::cluster::new_cluster;
 use clusters::cluster::with_need;
+use clusters::table::CLUSTERS_MOST;
 use clusters::table::Table;
 use clusters::table::append;
 use clusters::table::empty_table;
@@ -63,12 +65,13 @@ fn last_part(table: Table) -> u32
     last.part
 }
 
-// A cluster behind the last: at most 64, and with a part number above that of the last.
+// A cluster behind the last: at most 64, and with a part number above that of the last. begin_cluster makes the cluster, so that its
+// unused places are cleared.
 fn add_cluster(table: Table, c: Cluster) -> ListRead
     requires { ⌜ Built table × (c ≡ structCluster (viewCluster c)) ⌝ }
     ensures { λ r. ⌜ r ≡ listRead (clusterAdded (viewTable table) (viewCluster c)) ⌝ }
 {
-    if 64 <= table.count {
+    if CLUSTERS_MOST <= table.count {
         return ill_formed();
     }
     if c.part <= last_part(table) {
@@ -91,7 +94,7 @@ fn add_need(table: Table, n: Need) -> ListRead
         return ill_formed();
     }
     let last = table.clusters[count - 1];
-    if 4 <= last.need_count {
+    if NEEDS_MOST <= last.need_count {
         return ill_formed();
     }
     let more = with_need_at_last(table, n);
@@ -186,7 +189,7 @@ fn value_lines(s: &[u8], from: Cursor, columns: ClusterColumns) -> ListRead
 }
 
 // A cluster list: the names line, then the value lines.
-pub fn read_list(s: &[u8]) -> ListRead
+fn list_at_start(s: &[u8]) -> ListRead
     ensures { λ r. ⌜ r ≡ listRead (readList (now (s .entry))) ⌝ }
 {
     let names = Cursor { at: 0 };
@@ -197,4 +200,12 @@ pub fn read_list(s: &[u8]) -> ListRead
         return ill_formed();
     };
     value_lines(s, next, columns)
+}
+
+// The table that a list says, or ill-formed.
+pub fn read_list(s: &[u8]) -> ListRead
+    ensures meaning { λ r. ⌜ tableRead r ≡ readList (now (s .entry)) ⌝ }
+    ensures exact { λ r. ⌜ r ≡ listRead (readList (now (s .entry))) ⌝ }
+{
+    list_at_start(s)
 }

@@ -4,7 +4,7 @@ use crate::cluster::NEEDS_MOST;
 use crate::cluster::Need;
 use crate::table::CLUSTERS_MOST;
 use crate::table::Table;
-use text::version::PART_MOST;
+use text::version::VERSION_PART_MOST;
 use text::version::Version;
 ghost use mathlib.Core.Path.{_≡_};
 ghost use Prim.Native.Nat.{_≤_};
@@ -16,16 +16,16 @@ ghost use Rattle.clusters.specs.View.{viewCluster, viewTable};
 pub fn version_within(v: Version) -> bool
     ensures { λ r. ⌜ r ≡ versionWithin v ⌝ }
 {
-    if v.first > PART_MOST {
+    if v.first > VERSION_PART_MOST {
         return false;
     }
-    if v.second > PART_MOST {
+    if v.second > VERSION_PART_MOST {
         return false;
     }
-    if v.third > PART_MOST {
+    if v.third > VERSION_PART_MOST {
         return false;
     }
-    v.fourth <= PART_MOST
+    v.fourth <= VERSION_PART_MOST
 }
 
 // The largest part number is the largest of 32 bits.

@@ -1,6 +1,6 @@
--- Code that is a chain of `let .. else` over a word or a line of a package, and a definition that is a chain of `andThenSome`:
--- `search change-chain` at each return, with the chains of the crates below. x is a call's result, and e what the call ensures.
--- Also what a reader finds in a field that a call gave. Assumes nothing.
+-- A `let .. else` over an action word, and a definition that goes on by `andThenSome`: `search change-chain` at each return, with
+-- the chains of the crates below. x is a call's result, and e what the call ensures. Also what a reader finds in a field that a
+-- call gave, and whether that field is empty. Assumes nothing.
 use Prim.Native.Nat.{ℕ, _≤_, _<_}
 use mathlib.Core.Path.{_≡_, sym}
 use mathlib.Core.Bool.{true, false}
@@ -21,7 +21,7 @@ use Rattle.manifest.specs.declared.change.ChangeRead.the-variants as cha
 use Rattle.manifest.specs.Package.{changeOf}
 use Rattle.manifest.specs.Found.{changeFound}
 
--- ---- what was found
+-- ---- an action word
 
 module _ {R : Type 0} (ill : R) (x : ChangeRead) (y : Option Change) (f : Change → R) (e : changeFound x ≡ y) where
   pub then-stop-change : x ≡ change-read.IllFormed → ill ≡ andThenSome ill y f

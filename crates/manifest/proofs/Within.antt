@@ -33,7 +33,7 @@ use Rattle.cluster_list.specs.Read.{withNeed}
 use Rattle.cluster_list.proofs.ThenLaws.{then-cases-need}
 use Rattle.cluster_list.proofs.CellsWithin.{part-read-within, need-read-within}
 use Rattle.cluster_list.proofs.Within.{then-cases-some, cluster-is-within, with-need-within, one-need-within, no-need-within}
-use Rattle.manifest.specs.Package.{Manifest, PackageRead, illFormed, inconsistent, consistent, changeOf, Heading, onlyPart, removeHeading, clusterHeading, headingOf, payloadHeading, firstLine, noCluster, noPayload, onlyNeed, Text, furtherLines, furtherMost, packageWith, readPackage}
+use Rattle.manifest.specs.Package.{Manifest, PackageRead, illFormed, inconsistent, consistent, changeOf, Heading, onlyPart, removeHeading, clusterHeading, headingOf, firstLine, noCluster, noPayload, onlyNeed, Text, furtherLines, furtherMost, packageWith, readPackage}
 
 -- ---- the first value line
 
@@ -94,7 +94,7 @@ module _ (columns : PackageColumns) (l : List ℕ) (part count sum : ℕ) (fine 
   heading-within Remove = remove-within
 
 first-line-within : (columns : PackageColumns) (l : List ℕ) → HeadingWithin (firstLine columns l)
-unfolding firstLine payloadHeading
+unfolding firstLine
 first-line-within columns l =
     then-cases-some HeadingWithin none (changeOf (cell (columns .action) l)) _ tt λ change a.
     then-cases HeadingWithin none (partField (cell (columns .«cluster_columns» .cluster) l)) _ tt λ part behind e.

@@ -14,6 +14,7 @@ use Rattle.manifest.specs.declared.lines.NeedLine.{NeedLine}
 use Rattle.manifest.specs.declared.lines.NeedLine.the-variants as need-line
 use Rattle.manifest.specs.Package.{Heading, heading}
 
+-- the change that a word names
 abbrev pub changeFound : ChangeRead → Option Change
 changeFound (change-read.Value k) = some k
 changeFound change-read.IllFormed = none
@@ -23,14 +24,17 @@ abbrev pub firstNeeds : FirstNeed → List Need
 firstNeeds (Filled n) = n ∷ []
 firstNeeds Empty = []
 
+-- what the first value line says, without the code's grouping of its fields
 abbrev pub plainHeading : HeadingStruct → Heading
 plainHeading h =
     heading (h .fields .change) (record { part = h .fields .part; version = h .version; needs = firstNeeds (h .need) }) (h .fields .count) (h .fields .sum)
 
+-- the first value line, or none where it is ill-formed
 abbrev pub headingFound : HeadingRead → Option Heading
 headingFound (heading-read.Value h) = some (plainHeading h)
 headingFound heading-read.IllFormed = none
 
+-- the need of a further value line, or none where the line is ill-formed
 abbrev pub needFound : NeedLine → Option Need
 needFound (need-line.Value n) = some n
 needFound need-line.IllFormed = none

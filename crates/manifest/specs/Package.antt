@@ -54,7 +54,7 @@ abbrev pub heading : Change → Cluster → ℕ → ℕ → Heading
 heading change cluster count sum = record { change = change; cluster = cluster; count = count; sum = sum }
 
 -- version, needs and least of the line that a text begins with are empty
-unfoldable pub onlyPart : ClusterColumns → List ℕ → Bool
+abbrev pub onlyPart : ClusterColumns → List ℕ → Bool
 onlyPart columns l = isEmpty (cell (columns .version) l) && (isEmpty (cell (columns .needs) l) && isEmpty (cell (columns .least) l))
 
 -- "For `remove`, version, needs and least are empty, payload is 0"
@@ -73,13 +73,14 @@ clusterHeading change columns l part count sum =
     (needFields (columns .«cluster_columns») l) λ n.
     some (heading change (record { part = part; version = version; needs = n ∷ [] }) count sum)
 
+-- what the action makes of the first value line
 abbrev pub headingOf : Change → PackageColumns → List ℕ → ℕ → ℕ → ℕ → Option Heading
 headingOf Install = clusterHeading Install
 headingOf Update = clusterHeading Update
 headingOf Remove = removeHeading
 
 -- payload and sum of the first value line, and what its action makes of it. "Payload is 0 to 16,777,216, sum 0 to 65,535."
-unfoldable pub payloadHeading : Change → PackageColumns → List ℕ → ℕ → Option Heading
+abbrev pub payloadHeading : Change → PackageColumns → List ℕ → ℕ → Option Heading
 payloadHeading change columns l part =
     andThen none (wholeNumber 16777216 (cell (columns .payload) l)) λ count behind-count.
     andThen none (wholeNumber 65535 (cell (columns .sum) l)) λ sum behind-sum.
@@ -93,11 +94,11 @@ firstLine columns l =
     payloadHeading change columns l part
 
 -- cluster and version of the line that a text begins with are empty
-unfoldable pub noCluster : ClusterColumns → List ℕ → Bool
+abbrev pub noCluster : ClusterColumns → List ℕ → Bool
 noCluster columns l = isEmpty (cell (columns .cluster) l) && isEmpty (cell (columns .version) l)
 
 -- action, payload and sum of that line are empty
-unfoldable pub noPayload : PackageColumns → List ℕ → Bool
+abbrev pub noPayload : PackageColumns → List ℕ → Bool
 noPayload columns l = isEmpty (cell (columns .action) l) && (isEmpty (cell (columns .payload) l) && isEmpty (cell (columns .sum) l))
 
 -- "Value lines after the first fill only needs and least, both."

@@ -1,6 +1,5 @@
 // The action word of a package.
 ghost use mathlib.Core.Path.{_≡_};
-ghost use Prim.Native.Nat.{ℕ};
 ghost use Rattle.manifest.specs.Package.{changeOf, furtherMost};
 ghost use Rattle.manifest.specs.Found.{changeFound};
 use clusters::action::Change;

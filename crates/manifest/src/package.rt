@@ -8,7 +8,7 @@ ghost use Rattle.clusters.specs.View.{noVersion, actionOf};
 ghost use Rattle.clusters.specs.Struct.{structCluster, structAction};
 ghost use Rattle.manifest.specs.Package.{packageWith, packageBehind, packageFrom, readPackage};
 ghost use Rattle.manifest.specs.Found.{plainHeading};
-ghost use Rattle.manifest.specs.Answer.{cleared, packageRead};
+ghost use Rattle.manifest.specs.Answer.{answerNumber, refusalNumber, cleared, packageRead};
 use crate::change::further_most;
 use crate::heading::FirstNeed;
 use crate::heading::Heading;
@@ -172,8 +172,8 @@ fn package_from(s: &[u8], columns: PackageColumns, first: Cursor) -> PackageRead
     package_behind(s, columns, next, heading)
 }
 
-// The package in an area: refusal 9, refusal 10, or its action and where its payload lies.
-pub fn read_package(s: &[u8]) -> PackageRead
+// The package in an area, from its names line on.
+fn package_at_start(s: &[u8]) -> PackageRead
     ensures { λ r. ⌜ r ≡ packageRead (readPackage (now (s .entry))) ⌝ }
 {
     let names = Cursor { at: 0 };
@@ -184,4 +184,12 @@ pub fn read_package(s: &[u8]) -> PackageRead
         return no_package(PackageAnswer::IllFormed);
     };
     package_from(s, columns, first)
+}
+
+// The package in an area: refusal 9, refusal 10, or its action and where its payload lies.
+pub fn read_package(s: &[u8]) -> PackageRead
+    ensures meaning { λ r. ⌜ answerNumber (r .answer) ≡ refusalNumber (readPackage (now (s .entry))) ⌝ }
+    ensures exact { λ r. ⌜ r ≡ packageRead (readPackage (now (s .entry))) ⌝ }
+{
+    package_at_start(s)
 }

@@ -8,32 +8,52 @@ use mathlib.Core.Logic.{_↔_, _⊎_}
 use mathlib.Core.Option.{some}
 use Prim.Native.Nat.{ℕ, _+_, _-_, _≤_}
 use lib.ListN.{length, drop, replicate}
+use Rattle.base.specs.Refusals.{firstRefusal}
+use Rattle.clusters.specs.Table.{Table}
 use Rattle.clusters.specs.Action.{applyAll}
 use Rattle.cluster_list.specs.Read.{readList}
-use Rattle.model.specs.State.{Package, isIdle, State, Store}
+use Rattle.manifest.specs.Package.{Manifest, consistent, readPackage}
+use Rattle.model.specs.State.{Package, isIdle, isProcessing, State, Store, actions}
 use Rattle.model.specs.Calls.{Call, done, refused, accepted}
 use Rattle.model.specs.Areas.{declared, free, find, areaOf}
 use Rattle.model.specs.Tables.{running}
 use Rattle.model.specs.Sound.{storeMost, idMost, sound}
-use Rattle.model.specs.Step.{Outcome, outcome, step}
-use Rattle.model.specs.Load.{tableOr, loadedState, load}
+use Rattle.model.specs.Step.{Outcome, outcome, refusals, step}
+use Rattle.model.specs.Load.{tableOrEmpty, isBadLoad, loadedState, load}
 use Rattle.model.specs.Run.{Made, Run, run, acceptedOnly, callsOf}
 use Rattle.model.specs.Journal.{Journal, opened, journal}
 use Rattle.model.specs.Reading.{clusterInfo}
-use Rattle.model.specs.Demand3.{Undone, TableAtReturn, sessionGoesOn, mayWriteStore, AgreesWith, Demand3}
+use Rattle.model.specs.Demand3.{Undone, TableAtReturn, sessionGoesOn, LastSession, mayWriteStore, AgreesWith, Demand3}
 use Rattle.model.proofs.soundness.KeptSound.{step-sound}
+use Rattle.model.proofs.soundness.LoadSound.{load-refused, load-gives-back}
 use Rattle.model.proofs.soundness.RunningWithin.{info-loads}
 use Rattle.model.proofs.transitions.Refused as refusing
 use Rattle.model.proofs.journal.Lists.{state-last, store-last}
-use Rattle.model.proofs.journal.Returns.{idle-table}
 use Rattle.model.proofs.journal.Demand3 as every
-use Rattle.model.proofs.journal.SessionTable.{session-beginning}
+use Rattle.model.proofs.journal.SessionTable.{last-session}
 use Rattle.model.proofs.journal.Opened.{load-invariant, load-length}
 
 -- "After a refusal they hold what they held before, the state comes back equal": on any state and store
 pub refused-changes-nothing : (s : State) (store : Store) (call : Call) (number : ℕ) → step s store call .reply ≡ refused number
     → (step s store call .state ≡ s) × (step s store call .store ≡ store)
 refused-changes-nothing = refusing.refused-changes-nothing
+
+-- "Checked in this order ..; a refusal is the number alone .. and happens under no other condition": a call is refused with a number
+-- exactly when that is the number of the first refusal that applies
+pub refused-by-the-first : (s : State) (store : Store) (call : Call) (number : ℕ)
+    → (step s store call .reply ≡ refused number) ↔ (firstRefusal (refusals s store call) ≡ some number)
+refused-by-the-first = refusing.refused-by-the-first
+
+-- "BadLoad: Load with ill-formed list, id 0 or too long a store.", and Load is refused by no other number
+pub load-refused-by-20 : (given : State) (list : List ℕ) (first : ℕ) (lent : Store) (number : ℕ)
+    → (load given list first lent .reply ≡ refused number) ↔ ((number ≡ 20) × (isBadLoad list first lent ≡ true))
+load-refused-by-20 = load-refused
+
+-- "a state that it gives back when refused"; the store too holds what it held before
+pub refused-load-changes-nothing : (given : State) (list : List ℕ) (first : ℕ) (lent : Store) (number : ℕ)
+    → load given list first lent .reply ≡ refused number
+    → (load given list first lent .state ≡ given) × (load given list first lent .store ≡ lent)
+refused-load-changes-nothing = load-gives-back
 
 -- every call on a sound state gives a sound state, whatever bytes the store holds
 pub soundness-is-kept : (s : State) (store : Store) (call : Call) → sound s store ≡ true
@@ -60,12 +80,12 @@ module _ (given : State) (list : List ℕ) (first : ℕ) (lent : Store)
 
   -- document 01's book of these calls: "Tables B and R start as the loaded one"
   abbrev pub journalOf : List Call → Journal
-  journalOf calls = journal (opened (tableOr (readList list))) (after calls .made)
+  journalOf calls = journal (opened (tableOrEmpty (readList list))) (after calls .made)
 
   abbrev pub packagesAfter : List Call → List Package
   packagesAfter calls = after calls .state .transfers .packages
 
-  demand3 : (calls : List Call) → Demand3 (opened (tableOr (readList list))) (loaded .state) (loaded .store) calls
+  demand3 : (calls : List Call) → Demand3 (opened (tableOrEmpty (readList list))) (loaded .state) (loaded .store) calls
   demand3 calls = every.demand3-from _ _ _ (load-invariant given list first lent is-accepted) calls
 
   agrees : (calls : List Call) → AgreesWith (journalOf calls) (after calls .state) (after calls .store)
@@ -85,13 +105,27 @@ module _ (given : State) (list : List ℕ) (first : ℕ) (lent : Store)
   pub idle-agrees : (calls : List Call) → isIdle (after calls .state .phase) ≡ journalOf calls .isIdle
   idle-agrees calls = agrees calls .idleAgrees
 
+  -- A has the actions of the packages that were really processed: those of the session's list, in processing order
+  pub A-is-the-session-list : (calls : List Call) → journalOf calls .A ≡ actions (after calls .state .session .listed)
+  A-is-the-session-list calls = sym (agrees calls .listedIsA)
+
+  -- "the action in its accepted blocks, joined": in Processing, where alone Work is answered, these blocks read as a package
+  pub processing-reads-a-package : (calls : List Call) → isProcessing (after calls .state .phase) ≡ true
+      → (m : Manifest) × (readPackage (journalOf calls .blocks (journalOf calls .lastProcess)) ≡ consistent m)
+  processing-reads-a-package calls =
+      every.processing-reads _ _ _ (every.list-keeps _ _ _ calls (load-invariant given list first lent is-accepted))
+
   -- "the table when that session began": B of a session is the running table of the Idle state that it began from
   pub B-is-the-table-when-the-session-began : (calls session : List Call) → isIdle (after calls .state .phase) ≡ true
       → sessionGoesOn (after calls .state) (after calls .store) session ≡ true
       → journalOf (calls ++ session) .B ≡ running (after calls .state)
-  unfolding running
-  B-is-the-table-when-the-session-began calls session e h =
-      sym (beginning-is-B (calls ++ session)) ∙ session-beginning (loaded .state) (loaded .store) calls session h ∙ sym (idle-table _ _ e)
+  B-is-the-table-when-the-session-began = every.session-began _ _ _ (load-invariant given list first lent is-accepted)
+
+  -- every list of calls ends in a session, so what is said of sessions below is said after every list and at each return to Idle
+  pub every-list-ends-in-a-session : (calls : List Call) → LastSession (loaded .state) (loaded .store) calls
+  unfolding opened
+  every-list-ends-in-a-session calls =
+      last-session (loaded .state) (loaded .store) calls (sym (load-invariant given list first lent is-accepted .tables .at-idle))
 
   -- the call that returns to Idle, after a list of calls that does not end in Idle
   returning : (calls : List Call) (call : Call) → isIdle (after calls .state .phase) ≡ false
@@ -101,23 +135,39 @@ module _ (given : State) (list : List ℕ) (first : ℕ) (lent : Store)
       subst (λ (s : State). isIdle (s .phase) ≡ true → TableAtReturn (journalOf calls) call (running s))
       (sym (state-last (loaded .state) (loaded .store) calls call)) (agrees calls .atReturn call busy) e
 
-  -- "at each return to Idle, the running table and the table when that session began are equal exactly when the session ended by
-  -- Revert, by Finish after a Rollback that was completed, or with no package processed."
-  pub equal-exactly-when-undone : (calls : List Call) (call : Call) → isIdle (after calls .state .phase) ≡ false
-      → isIdle (after (calls ++ call ∷ []) .state .phase) ≡ true
-      → (running (after (calls ++ call ∷ []) .state) ≡ journalOf calls .B) ↔ Undone (journalOf calls) call
-  equal-exactly-when-undone calls call busy e = returning calls call busy e .equalExactlyWhen
+  -- a session: `before` ends in Idle, and no call of `session` does. The table when that session began is `running` after `before`
+  module _ (before session : List Call) (began : isIdle (after before .state .phase) ≡ true)
+      (goes-on : sessionGoesOn (after before .state) (after before .store) session ≡ true) where
+    -- a call that returns to Idle: it is made in another state and ends in Idle
+    abbrev pub ReturnsToIdle : Call → Type 0
+    ReturnsToIdle call =
+        (isIdle (after (before ++ session) .state .phase) ≡ false) × (isIdle (after ((before ++ session) ++ call ∷ []) .state .phase) ≡ true)
 
-  -- "Otherwise the running table is the beginning table with the processed packages' actions applied in processing order."
-  pub otherwise-all-applied : (calls : List Call) (call : Call) → isIdle (after calls .state .phase) ≡ false
-      → isIdle (after (calls ++ call ∷ []) .state .phase) ≡ true → (Undone (journalOf calls) call → ⊥)
-      → running (after (calls ++ call ∷ []) .state) ≡ applyAll (journalOf calls .B) (journalOf calls .A)
-  otherwise-all-applied calls call busy e = returning calls call busy e .otherwise
+    -- "at each return to Idle, the running table and the table when that session began are equal exactly when the session ended by
+    -- Revert, by Finish after a Rollback that was completed, or with no package processed."
+    pub equal-exactly-when-undone : (call : Call) → ReturnsToIdle call
+        → (running (after ((before ++ session) ++ call ∷ []) .state) ≡ running (after before .state)) ↔ Undone (journalOf (before ++ session)) call
+    equal-exactly-when-undone call r =
+        subst (λ (t : Table). (running (after ((before ++ session) ++ call ∷ []) .state) ≡ t) ↔ Undone (journalOf (before ++ session)) call)
+        (B-is-the-table-when-the-session-began before session began goes-on)
+        (returning (before ++ session) call (r .0) (r .1) .equalExactlyWhen)
 
-  -- "After every other call it is the beginning table or that one with the actions processed by then, and no third."
-  pub no-third-table : (calls : List Call)
-      → (running (after calls .state) ≡ journalOf calls .B) ⊎ (running (after calls .state) ≡ applyAll (journalOf calls .B) (journalOf calls .A))
-  no-third-table calls = agrees calls .noThird
+    -- "Otherwise the running table is the beginning table with the processed packages' actions applied in processing order."
+    pub otherwise-all-applied : (call : Call) → ReturnsToIdle call → (Undone (journalOf (before ++ session)) call → ⊥)
+        → running (after ((before ++ session) ++ call ∷ []) .state) ≡ applyAll (running (after before .state)) (journalOf (before ++ session) .A)
+    otherwise-all-applied call r undone =
+        returning (before ++ session) call (r .0) (r .1) .otherwise undone
+        ∙ ap (λ (t : Table). applyAll t (journalOf (before ++ session) .A))
+        (B-is-the-table-when-the-session-began before session began goes-on)
+
+    -- "After every other call it is the beginning table or that one with the actions processed by then, and no third."
+    pub no-third-table : (running (after (before ++ session) .state) ≡ running (after before .state))
+        ⊎ (running (after (before ++ session) .state) ≡ applyAll (running (after before .state)) (journalOf (before ++ session) .A))
+    no-third-table =
+        subst
+        (λ (t : Table). (running (after (before ++ session) .state) ≡ t)
+        ⊎ (running (after (before ++ session) .state) ≡ applyAll t (journalOf (before ++ session) .A)))
+        (B-is-the-table-when-the-session-began before session began goes-on) (agrees (before ++ session) .noThird)
 
   -- ---- refused calls
 

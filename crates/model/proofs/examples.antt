@@ -4,3 +4,4 @@ pub mod BenchExamples
 pub mod Sessions
 pub mod NearMisses
 pub mod Permitted
+pub mod Reports

@@ -46,21 +46,21 @@ blockPut id block (p ∷ ps) store =
     (take (p .size) store ++ blockPut id block ps (drop (p .size) store))
 
 -- the packages that are kept
-unfoldable pub kept : (Package → Bool) → List Package → List Package
-kept keeps [] = []
-kept keeps (p ∷ ps) = cond (keeps p) (p ∷ kept keeps ps) (kept keeps ps)
+unfoldable pub remaining : (Package → Bool) → List Package → List Package
+remaining keeps [] = []
+remaining keeps (p ∷ ps) = cond (keeps p) (p ∷ remaining keeps ps) (remaining keeps ps)
 
 -- the areas of the packages that are kept, back to back
-unfoldable pub keptAreas : (Package → Bool) → List Package → Store → List ℕ
-keptAreas keeps [] store = []
-keptAreas keeps (p ∷ ps) store =
-    let later = keptAreas keeps ps (drop (p .size) store) in
+unfoldable pub remainingAreas : (Package → Bool) → List Package → Store → List ℕ
+remainingAreas keeps [] store = []
+remainingAreas keeps (p ∷ ps) store =
+    let later = remainingAreas keeps ps (drop (p .size) store) in
     cond (keeps p) (take (p .size) store ++ later) later
 
 -- "Deleting moves later areas down whole and fills the bytes between the new and the old end of the last area with 0"
 unfoldable pub deleted : (Package → Bool) → List Package → Store → Store
 deleted keeps ps store =
-    keptAreas keeps ps store ++ (replicate (declared ps - declared (kept keeps ps)) 0 ++ drop (declared ps) store)
+    remainingAreas keeps ps store ++ (replicate (declared ps - declared (remaining keeps ps)) 0 ++ drop (declared ps) store)
 
 -- a package of a size, started with an id: nothing received
 abbrev pub newPackage : ℕ → ℕ → Package

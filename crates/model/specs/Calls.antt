@@ -1,4 +1,5 @@
--- The twelve changing calls and their answers.
+-- The twelve changing calls and their answers. Numbers and bytes are any ℕ, so what is claimed of calls covers more than those of 32
+-- and 8 bits.
 use Prim.Native.Nat.{ℕ}
 use mathlib.Core.Bool.{Bool}
 use mathlib.Core.List.{List}

@@ -1,4 +1,4 @@
--- The words of demand 3 about the end of a session, and those of document 01 about who writes the store.
+-- The whole statement of demand 3, and of document 01's words about who writes the store and what it holds: `Demand3` at the end.
 use Prim.Native.Nat.{ℕ, _+_, _-_}
 use mathlib.Core.Path.{_≡_}
 use mathlib.Core.Bool.{Bool, true, false, not, _&&_}
@@ -9,7 +9,7 @@ use lib.Dec.{eqb}
 use lib.ListN.{length, drop, replicate}
 use Rattle.clusters.specs.Table.{Table}
 use Rattle.clusters.specs.Action.{applyAll}
-use Rattle.model.specs.State.{Package, Phase, phaseNumber, isIdle, State, Store}
+use Rattle.model.specs.State.{Package, Phase, phaseNumber, isIdle, State, Store, actions}
 use Rattle.model.specs.Calls.{Call, transferStart, transferData, transferExit, deleteTransfer, process, work, cancel, revert, activate, rollback, finish, report, refused}
 use Rattle.model.specs.Areas.{declared, free, find, areaOf}
 use Rattle.model.specs.Tables.{running}
@@ -53,6 +53,14 @@ sessionGoesOn s store (call ∷ calls) =
     let o = step s store call in
     not (isIdle (o .state .phase)) && sessionGoesOn (o .state) (o .store) calls
 
+-- the session that a list of calls ends in: the list is `before` and `session`, `before` ends in Idle and no call of `session` does
+pub record LastSession (s : State) (store : Store) (calls : List Call) : Type 0 where
+  pub before : List Call
+  pub session : List Call
+  pub joined : before ++ session ≡ calls
+  pub began : isIdle (run s store before .state .phase) ≡ true
+  pub goesOn : sessionGoesOn (run s store before .state) (run s store before .store) session ≡ true
+
 -- ---- the statement
 
 -- what holds of a state and store with the journal of the calls that led to them, and of each call made then
@@ -62,6 +70,8 @@ pub record AgreesWith (j : Journal) (s : State) (store : Store) : Type 0 where
   pub runningIsR : running s ≡ j .R
   pub beginningIsB : s .session .beginning ≡ j .B
   pub idleAgrees : isIdle (s .phase) ≡ j .isIdle
+  -- A has the actions of the packages that were really processed, in processing order
+  pub listedIsA : actions (s .session .listed) ≡ j .A
   -- "at each return to Idle"
   pub atReturn : (call : Call) → isIdle (s .phase) ≡ false → isIdle (step s store call .state .phase) ≡ true
       → TableAtReturn j call (running (step s store call .state))
@@ -83,6 +93,15 @@ pub record AgreesWith (j : Journal) (s : State) (store : Store) : Type 0 where
 -- what holds of a list of calls, made from a state and store with a journal
 pub record Demand3 (j : Journal) (s : State) (store : Store) (calls : List Call) : Type 0 where
   pub afterwards : AgreesWith (journal j (run s store calls .made)) (run s store calls .state) (run s store calls .store)
+  -- "After every call": the same holds after the first calls of the list, however many
+  pub afterEach : (before rest : List Call) → before ++ rest ≡ calls
+      → AgreesWith (journal j (run s store before .made)) (run s store before .state) (run s store before .store)
+  -- "the table when that session began": where `before` ends in Idle and no call of `session` does, B is the running table after
+  -- `before`
+  pub sessionBegan : (before session rest : List Call) → (before ++ session) ++ rest ≡ calls
+      → isIdle (run s store before .state .phase) ≡ true
+      → sessionGoesOn (run s store before .state) (run s store before .store) session ≡ true
+      → journal j (run s store (before ++ session) .made) .B ≡ running (run s store before .state)
   -- "The list without its refused calls, from the same start, gives every other call the same answer and ends with equal state
   -- and store."
   pub withoutRefused : run s store (callsOf (acceptedOnly (run s store calls .made)))

@@ -44,7 +44,8 @@ abbrev pub isEmpty : List Action → Bool
 isEmpty [] = true
 isEmpty (a ∷ rest) = false
 
--- "the action in its accepted blocks, joined"
+-- "the action in its accepted blocks, joined". The default of `manifestOf` never counts here: by the claims
+-- `processing-reads-a-package` and `A-is-the-session-list` the blocks read as a package, and A has the actions of the session's list
 unfoldable pub actionIn : List ℕ → Action
 actionIn bytes = manifestOf (readPackage bytes) .action
 
@@ -100,6 +101,7 @@ reportDone toRollback j = withTables (j .B) (j .B) (j .A) true (j .isIdle) j
 reportDone toRevert j = returned j
 reportDone toFinish j = returned j
 
+-- what Work's answer says: Processed, Cancelled and Inconsistent as above, any other changes nothing
 unfoldable pub workNoted : Answer → Journal → Journal
 workNoted processed j = packageProcessed j
 workNoted cancelled j = packageLeft j

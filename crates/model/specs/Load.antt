@@ -14,25 +14,28 @@ use Rattle.model.specs.Calls.{done}
 use Rattle.model.specs.Sound.{storeMost, idMost}
 use Rattle.model.specs.Step.{Outcome, outcome, settled}
 
+-- no table was read: the list is ill-formed
 abbrev pub isNone : Option Table → Bool
 isNone none = true
 isNone (some table) = false
 
-abbrev pub tableOr : Option Table → Table
-tableOr none = []
-tableOr (some table) = table
+-- the table that was read; an ill-formed list is refused by 20 before the empty one counts
+abbrev pub tableOrEmpty : Option Table → Table
+tableOrEmpty none = []
+tableOrEmpty (some table) = table
 
 -- "20. BadLoad: Load with ill-formed list, id 0 or too long a store."
-unfoldable pub loadRefusal : List ℕ → ℕ → Store → Bool
-loadRefusal list first store = isNone (readList list) || (not (leb 1 first && leb first idMost) || ltb storeMost (length store))
+unfoldable pub isBadLoad : List ℕ → ℕ → Store → Bool
+isBadLoad list first store = isNone (readList list) || (not (leb 1 first && leb first idMost) || ltb storeMost (length store))
 
 -- the state that an accepted Load gives: Idle, with no package, the loaded table and the given first id
 abbrev pub loadedState : Table → ℕ → State
 loadedState table first =
     state idle (record { packages = []; next = first }) (record { beginning = table; listed = [] }) none
 
+-- "It fills the store with 0 and gives the state Idle."; refused by 20 alone, it gives state and store back
 unfoldable pub load : State → List ℕ → ℕ → Store → Outcome
 load s list first store =
     settled s store
-    (firstRefusal ((refuse 20 when loadRefusal list first store) ∷ []))
-    (outcome done (loadedState (tableOr (readList list)) first) (replicate (length store) 0))
+    (firstRefusal ((refuse 20 when isBadLoad list first store) ∷ []))
+    (outcome done (loadedState (tableOrEmpty (readList list)) first) (replicate (length store) 0))

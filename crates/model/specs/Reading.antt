@@ -41,6 +41,19 @@ reportBuffer unsound content old = old
 reportBuffer (shortBuffer needed) content old = old
 reportBuffer (written count) content old = content ++ drop count old
 
+-- a report: its reply, and what the lent buffer holds then
+pub record Report (A : Type 0) : Type 0 where
+  pub reply : ReportReply
+  pub buffer : List A
+
+-- the report of a content into a lent buffer, by whether the state is sound: the length is the content's
+unfoldable pub reportOf : {A : Type 0} → Bool → List A → List A → Report A
+reportOf isSound content old =
+    record {
+      reply = reportReply isSound (length content) (length old);
+      buffer = reportBuffer (reportReply isSound (length content) (length old)) content old;
+    }
+
 -- ---- Packages
 
 -- "records (id, size, received, state)"
@@ -57,11 +70,17 @@ packageRecord p = record { id = p .id; size = p .size; received = p .received; s
 unfoldable pub packageRecords : State → List PackageRecord
 packageRecords s = map packageRecord (s .transfers .packages)
 
+unfoldable pub packagesReport : State → Store → List PackageRecord → Report PackageRecord
+packagesReport s store old = reportOf (sound s store) (packageRecords s) old
+
 -- ---- ClusterInfo and ChangeInfo
 
 -- "ClusterInfo writes the running table as text"
 unfoldable pub clusterInfo : State → List ℕ
 clusterInfo s = writeList (running s)
+
+unfoldable pub clusterInfoReport : State → Store → List ℕ → Report ℕ
+clusterInfoReport s store old = reportOf (sound s store) (clusterInfo s) old
 
 -- "Added, Updated or Removed"
 abbrev pub changeWord : Action → List ℕ
@@ -76,6 +95,9 @@ changeLines (a ∷ rest) = lineText (digits (actionPart a) ∷ changeWord a ∷ 
 -- "ChangeInfo the session's list in order as names `cluster`, `change`"; "with a names line always"
 unfoldable pub changeInfo : State → List ℕ
 changeInfo s = lineText (bytes "cluster" ∷ bytes "change" ∷ []) ++ changeLines (actions (s .session .listed))
+
+unfoldable pub changeInfoReport : State → Store → List ℕ → Report ℕ
+changeInfoReport s store old = reportOf (sound s store) (changeInfo s) old
 
 -- ---- Payload
 

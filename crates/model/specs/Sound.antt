@@ -36,11 +36,12 @@ receivedSound p = cond (isTransferring (p .state)) (leb (p .received) (p .size))
 unfoldable pub packageSound : Package → Bool
 packageSound p = leb 1 (p .id) && (leb 1 (p .size) && (receivedSound p && leb (p .blocks) (p .received)))
 
--- "ids rise and are below the next id": those of the list, from above `last`
+-- "ids rise and are below the next id": those of the list, from above `last`. Each package is checked by `packageSound` on the way
 unfoldable pub packagesRise : ℕ → ℕ → List Package → Bool
 packagesRise last next [] = true
 packagesRise last next (p ∷ ps) = ltb last (p .id) && (ltb (p .id) next && (packageSound p && packagesRise (p .id) next ps))
 
+-- "At most 16 packages."; the next id is at least 1 and at most one above the last; ids rise and each package is sound
 unfoldable pub transfersSound : Transfers → Bool
 transfersSound t =
     leb (length (t .packages)) packagesMost
@@ -73,7 +74,7 @@ workSound session packages w =
     actionWithin (w .action)
     && (passes (staged session) (actions (session .listed)) (w .action)
     && (eqb (w .start + w .count) (packageOf (processingId packages) packages .size)
-    && (leb (w .done) (w .count) && (leb (w .sum) 65535 && sumsWithin (w .sums)))))
+    && (leb (w .done) (w .count) && (leb (w .sum) 65535 && sumsWithin (w .runningSums)))))
 
 -- "in Processing" there are kept values; "outside it the kept values and the cancel note are cleared"
 unfoldable pub keptSound : Phase → Session → List Package → Option Work → Bool
@@ -89,6 +90,7 @@ unfoldable pub listFits : Phase → List Entry → Bool
 listFits phase [] = isIdle phase || isProcessing phase
 listFits phase (e ∷ entries) = not (isIdle phase)
 
+-- "Sound: every limit above holds, that of the store handed in too; ..": all the parts above, joined
 unfoldable pub sound : State → Store → Bool
 sound s store =
     storeSound (s .transfers .packages) store

@@ -1,4 +1,5 @@
--- What the manager's state holds, and its store.
+-- What the manager's state holds, and its store. Numbers and bytes are any ℕ, so what is claimed of states and stores covers more than
+-- those of 32 and 8 bits.
 use Prim.Native.Nat.{ℕ}
 use mathlib.Core.Bool.{Bool, true, false}
 use mathlib.Core.List.{List, [], map}
@@ -82,7 +83,7 @@ pub record Work : Type 0 where
   pub start : ℕ
   pub count : ℕ
   pub sum : ℕ
-  pub sums : Sums
+  pub runningSums : Sums
   pub done : ℕ
   pub cancelNoted : Bool
 

@@ -12,11 +12,11 @@ use Rattle.clusters.specs.Table.{Table, needsMet}
 use Rattle.clusters.specs.Action.{Action, remove, actionRefusals}
 use Rattle.manifest.specs.Package.{Manifest, PackageRead, illFormed, inconsistent, consistent, readPackage}
 use Rattle.model.specs.State.{PackageState, transferred, beingProcessed, Package, RollbackOrigin, verifyingRollsBack, activatedRollsBack, CleanUpOrigin, readyCleansUp, activatedCleansUp, rolledBackCleansUp, Phase, idle, ready, processing, activating, verifying, activated, rollingBack, rolledBack, cleaningUp, phaseNumber, isProcessing, Transfers, Entry, Session, Work, State, state, Store, actions}
-use Rattle.model.specs.State as st
+use Rattle.model.specs.State as states
 use Rattle.model.specs.Calls.{Call, callNumber, transferStart, transferData, transferExit, deleteTransfer, process, work, cancel, revert, activate, rollback, finish, report, Answer, givenId, done, working, processed, cancelled, preActivationFailed, missingDependencies, verificationFailed, notAbleToRollback, notAbleToRevert, cleaningFailed, Reply, refused, accepted}
 use Rattle.model.specs.Calls as calls
 use Rattle.model.specs.Permissions.{allowed}
-use Rattle.model.specs.Areas.{free, find, packageOf, areaOf, blockPut, kept, deleted, newPackage, inState, withBlock, changed, isTransferring, isTransferred, isBeingProcessed, isProcessed, processingId}
+use Rattle.model.specs.Areas.{free, find, packageOf, areaOf, blockPut, remaining, deleted, newPackage, inState, withBlock, changed, isTransferring, isTransferred, isBeingProcessed, isProcessed, processingId}
 use Rattle.model.specs.Tables.{staged}
 use Rattle.model.specs.Sound.{sound, packagesMost, idMost}
 
@@ -64,18 +64,25 @@ module _ (s : State) (store : Store) where
 
   -- the refusals of a call from 4 on, in the order in which they are checked
   unfoldable pub ownRefusals : Call → List Refusal
+  -- "7. IncorrectSize: Start with 0"; "16. TransfersFull: Start with 16 packages."; "17. InsufficientMemory: Start with size above
+  -- the free bytes."; "18. IdsSpent: Start after 4,294,967,295 was given."
   ownRefusals (transferStart size) =
       (refuse 7 when ltb size 1)
       ∷ (refuse 16 when leb packagesMost (length (s .transfers .packages)))
       ∷ (refuse 17 when ltb (free (s .transfers .packages) store) size)
       ∷ (refuse 18 when ltb idMost (s .transfers .next))
       ∷ []
+  -- "4. InvalidTransferId: no package has the id"; "5. WrongPackageState: Data or Exit off Transferring"; "6. IncorrectBlock: the
+  -- counter isn't the expected one."; "7. IncorrectSize: .. data empty, or data past the declared size."
   ownRefusals (transferData id counter block) =
       (refuse 4 when unknown id (s .transfers .packages))
       ∷ (refuse 5 when not (isTransferring (named id .state)))
       ∷ (refuse 6 when not (eqb counter (named id .blocks + 1)))
       ∷ (refuse 7 when (ltb (length block) 1 || ltb (named id .size) (named id .received + length block)))
       ∷ []
+  -- 4 as above; "5. WrongPackageState: Data or Exit off Transferring"; "8. InsufficientData: Exit before all bytes came.";
+  -- "9. InvalidManifest: Exit, Process or Payload; text before the payload ill-formed."; "10. PackageInconsistent: the same calls;
+  -- bytes behind the empty line aren't exactly the payload count."
   ownRefusals (transferExit id) =
       (refuse 4 when unknown id (s .transfers .packages))
       ∷ (refuse 5 when not (isTransferring (named id .state)))
@@ -83,29 +90,38 @@ module _ (s : State) (store : Store) where
       ∷ (refuse 9 when isIllFormed (areaRead id))
       ∷ (refuse 10 when isInconsistent (areaRead id))
       ∷ []
+  -- 4 as above; "5. WrongPackageState: .. Delete on Processing or Processed"
   ownRefusals (deleteTransfer id) =
       (refuse 4 when unknown id (s .transfers .packages))
       ∷ (refuse 5 when (isBeingProcessed (named id .state) || isProcessed (named id .state)))
       ∷ []
+  -- 4, 9 and 10 as above; "5. WrongPackageState: .. Process off Transferred"; then "11. ClusterTouched", "12. ClusterPresent",
+  -- "13. ClusterAbsent", "14. OldVersion" and "15. TableFull"
   ownRefusals (process id) =
       (refuse 4 when unknown id (s .transfers .packages))
       ∷ (refuse 5 when not (isTransferred (named id .state)))
       ∷ (refuse 9 when isIllFormed (areaRead id))
       ∷ (refuse 10 when isInconsistent (areaRead id))
       ∷ actionRefusals (staged (s .session)) (actions (s .session .listed)) (manifestOf (areaRead id) .action)
+  -- Work has none from 4 on
   ownRefusals (work n) = []
+  -- "4. InvalidTransferId: .. or Cancel names another than the one processing."
   ownRefusals (cancel id) = (refuse 4 when not (eqb id (processingId (s .transfers .packages)))) ∷ []
+  -- these five have none from 4 on
   ownRefusals revert = []
   ownRefusals activate = []
   ownRefusals rollback = []
   ownRefusals finish = []
   ownRefusals (report good) = []
 
-  -- "Checked in this order". "ServiceBusy: Process in Processing."
+  -- "Checked in this order, each where it names the call"
   unfoldable pub refusals : Call → List Refusal
   refusals call =
+      -- "1. BadState: any call but Load; the state isn't sound"
       (refuse 1 when not (sound s store))
+      -- "2. ServiceBusy: Process in Processing."
       ∷ (refuse 2 when (eqb (callNumber call) 4 && isProcessing (s .phase)))
+      -- "3. OperationNotPermitted: the manager's state doesn't allow the call."
       ∷ (refuse 3 when not (allowed (s .phase) call))
       ∷ ownRefusals call
 
@@ -117,7 +133,7 @@ withPackages ps t = record { packages = ps; next = t .next }
 -- "with the running sums and the bytes done at 0"
 abbrev pub workBegun : Manifest → Work
 workBegun m =
-    record { action = m .action; start = m .start; count = m .count; sum = m .sum; sums = startSums; done = 0; cancelNoted = false }
+    record { action = m .action; start = m .start; count = m .count; sum = m .sum; runningSums = startSums; done = 0; cancelNoted = false }
 
 -- "takes the next n payload bytes, or what is left"
 abbrev pub taken : Work → ℕ → ℕ
@@ -135,15 +151,15 @@ workOn w n area =
       start = w .start;
       count = w .count;
       sum = w .sum;
-      sums = continued (w .sums) (bytesTaken w n area);
+      runningSums = continued (w .runningSums) (bytesTaken w n area);
       done = w .done + taken w n;
       cancelNoted = w .cancelNoted;
     }
 
 -- "notes the cancel until Processing ends; again is accepted"
-abbrev pub noted : Work → Work
-noted w =
-    record { action = w .action; start = w .start; count = w .count; sum = w .sum; sums = w .sums; done = w .done; cancelNoted = true }
+abbrev pub withCancelNoted : Work → Work
+withCancelNoted w =
+    record { action = w .action; start = w .start; count = w .count; sum = w .sum; runningSums = w .runningSums; done = w .done; cancelNoted = true }
 
 -- "The state after any of the three endings is Ready if the session's list isn't empty, else Idle."
 abbrev pub phaseAfter : List Entry → Phase
@@ -176,7 +192,8 @@ module _ (s : State) (store : Store) where
   abbrev pub movesTo : Phase → Answer → Outcome
   movesTo phase answer = outcome answer (state phase (s .transfers) (s .session) (s .work)) store
 
-  -- Processing ends: the package has another state and the kept values are cleared
+  -- "When Processing ends all of these and the cancel note are cleared to 0."; "Cancelled and Inconsistent make the package
+  -- Transferred again", Processed makes it Processed
   abbrev pub endsProcessing : Answer → PackageState → List Entry → Outcome
   endsProcessing answer packageState listed =
       outcome answer
@@ -194,8 +211,8 @@ module _ (s : State) (store : Store) where
   -- with no payload left: "answer Inconsistent when the sum differs, else Processed"
   unfoldable pub sumCompared : Work → Outcome
   sumCompared w =
-      cond (eqb (sumNumber (w .sums)) (w .sum))
-      (endsProcessing processed st.processed (listedWith w))
+      cond (eqb (sumNumber (w .runningSums)) (w .sum))
+      (endsProcessing processed states.processed (listedWith w))
       (endsProcessing calls.inconsistent transferred (s .session .listed))
 
   -- Work(n) on the kept values. "If a cancel is noted, nothing is taken: answer Cancelled. Otherwise, with payload left, answer
@@ -216,25 +233,35 @@ module _ (s : State) (store : Store) where
       outcome done
       (state
       idle
-      (withPackages (kept (λ p. not (isProcessed (p .state))) (s .transfers .packages)) (s .transfers))
+      (withPackages (remaining (λ p. not (isProcessed (p .state))) (s .transfers .packages)) (s .transfers))
       (record { beginning = table; listed = [] })
       (s .work))
       (deleted (λ p. not (isProcessed (p .state))) (s .transfers .packages) store)
 
   -- Report in each manager's state. In those that do not allow it, it is refused before it counts
   unfoldable pub reported : Phase → Bool → Outcome
+  -- "Activating: bad gives Ready, PreActivationFailed. Good gives Ready, MissingDependencies, if some need of some cluster isn't met
+  -- in the staged table; else Verifying."
   reported activating good =
       movesTo (activatingPhase good (needsMet (staged (s .session)))) (activatingAnswer good (needsMet (staged (s .session))))
+  -- "Verifying: good gives Activated, bad stays, VerificationFailed."
   reported verifying true = movesTo activated done
   reported verifying false = movesTo verifying verificationFailed
+  -- "RollingBack: good gives RolledBack; bad the state it came from, NotAbleToRollback."
   reported (rollingBack origin) true = movesTo rolledBack done
   reported (rollingBack origin) false = movesTo (rollbackPhase origin) notAbleToRollback
+  -- "CleaningUp: good gives Idle and deletes all Processed packages; bad after Revert gives Ready, NotAbleToRevert": after Revert the
+  -- beginning table stays
   reported (cleaningUp readyCleansUp) true = cleanedUp (s .session .beginning)
   reported (cleaningUp readyCleansUp) false = movesTo ready notAbleToRevert
+  -- "and after Finish stays, CleaningFailed"; the staged table runs in "CleaningUp after Finish from Activated; after that CleaningUp
+  -- ends it begins the next session"
   reported (cleaningUp activatedCleansUp) true = cleanedUp (staged (s .session))
   reported (cleaningUp activatedCleansUp) false = movesTo (cleaningUp activatedCleansUp) cleaningFailed
+  -- after Finish from RolledBack the beginning table stays
   reported (cleaningUp rolledBackCleansUp) true = cleanedUp (s .session .beginning)
   reported (cleaningUp rolledBackCleansUp) false = movesTo (cleaningUp rolledBackCleansUp) cleaningFailed
+  -- "Report in Activating, Verifying, RollingBack and CleaningUp": in these five it is refused by 3
   reported idle good = movesTo idle done
   reported ready good = movesTo ready done
   reported processing good = movesTo processing done
@@ -243,6 +270,7 @@ module _ (s : State) (store : Store) where
 
   -- the answer, state and store of an accepted call, in the order of document 01's bullets
   unfoldable pub act : Call → Outcome
+  -- "TransferStart(size) gives the next id, one above the last given."
   act (transferStart size) =
       outcome (givenId (s .transfers .next))
       (state
@@ -251,13 +279,19 @@ module _ (s : State) (store : Store) where
       (s .session)
       (s .work))
       store
+  -- "TransferData(id, block counter, data): the counter .. rises by one per accepted block. The block is written directly behind the
+  -- bytes received so far."
   act (transferData id counter block) =
       changesPackages (changed id (withBlock (length block)) (s .transfers .packages)) (blockPut id block (s .transfers .packages) store)
+  -- "TransferExit(id) checks the package: Transferred."
   act (transferExit id) = changesPackages (changed id (inState transferred) (s .transfers .packages)) store
+  -- "DeleteTransfer(id)."; "Deleting moves later areas down whole"
   act (deleteTransfer id) =
       changesPackages
-      (kept (λ p. not (eqb id (p .id))) (s .transfers .packages))
+      (remaining (λ p. not (eqb id (p .id))) (s .transfers .packages))
       (deleted (λ p. not (eqb id (p .id))) (s .transfers .packages) store)
+  -- "Process(id): Idle or Ready to Processing. From Idle a session begins. The state keeps the action, the payload's start within its
+  -- area, count and sum, with the running sums and the bytes done at 0"
   act (process id) =
       outcome done
       (state
@@ -266,16 +300,23 @@ module _ (s : State) (store : Store) where
       (s .session)
       (some (workBegun (manifestOf (areaRead s store id)))))
       store
+  -- "Work(n) .. takes the next n payload bytes, or what is left, into the sum." In Processing there are kept values
   act (work n) = elim (s .work) [ none ↦ movesTo (s .phase) done | some w ↦ worked w n ]
+  -- "Cancel(id) notes the cancel until Processing ends; again is accepted."
   act (cancel id) =
       elim (s .work) [
         | none ↦ movesTo (s .phase) done
-        | some w ↦ outcome done (state (s .phase) (s .transfers) (s .session) (some (noted w))) store
+        | some w ↦ outcome done (state (s .phase) (s .transfers) (s .session) (some (withCancelNoted w))) store
       ]
+  -- "Revert: Ready to CleaningUp."
   act revert = movesTo (cleaningUp readyCleansUp) done
+  -- "Activate: Ready to Activating."
   act activate = movesTo activating done
+  -- "Rollback: Verifying or Activated to RollingBack.", and keeps which
   act rollback = movesTo (rollingBack (cond (eqb (phaseNumber (s .phase)) 4) verifyingRollsBack activatedRollsBack)) done
+  -- "Finish: Activated or RolledBack to CleaningUp.", and keeps which
   act finish = movesTo (cleaningUp (cond (eqb (phaseNumber (s .phase)) 5) activatedCleansUp rolledBackCleansUp)) done
+  -- "Report(good or bad), from the machine."
   act (report good) = reported (s .phase) good
 
 -- a refused call gives state and store back as they were

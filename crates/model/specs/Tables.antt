@@ -22,5 +22,6 @@ runningIn (cleaningUp readyCleansUp) session = session .beginning
 runningIn (cleaningUp activatedCleansUp) session = staged session
 runningIn (cleaningUp rolledBackCleansUp) session = session .beginning
 
+-- the running table of a state
 unfoldable pub running : State → Table
 running s = runningIn (s .phase) (s .session)

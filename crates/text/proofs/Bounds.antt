@@ -16,7 +16,7 @@ use Rattle.text.specs.declared.version.Version.{Version}
 use Rattle.text.specs.declared.version.VersionRead.{VersionRead}
 use Rattle.text.specs.declared.version.VersionRead.the-variants as version
 use Rattle.text.specs.Number.{digitOf, numberGoesOn, numberBegins, numberAt}
-use Rattle.text.specs.Version.{partMost, versionWithin, dottedAt, versionAt}
+use Rattle.text.specs.Version.{versionPartMost, versionWithin, dottedAt, versionAt}
 use Rattle.text.proofs.ThenLaws.{then-cases}
 
 -- at most `most`, and ending from `p` to `e`
@@ -62,11 +62,11 @@ number-within s at most =
     within-text most at (length s) (numberAt s at most)
     (begins-within most at (at + (length s - at)) (drop at s) (simp length-drop (omega arith)))
 
-pub dotted-within : (s : List ℕ) (at : ℕ) → Within partMost (at + 1) (length s) (dottedAt s at)
+pub dotted-within : (s : List ℕ) (at : ℕ) → Within versionPartMost (at + 1) (length s) (dottedAt s at)
 unfolding dottedAt
 dotted-within s at =
-    cond-cases (Within partMost (at + 1) (length s)) (eqb (getD s at 0) dot) _ _
-    (λ _. within-more partMost (at + 1) (length s) (numberAt s (at + 1) partMost) (number-within s (at + 1) partMost))
+    cond-cases (Within versionPartMost (at + 1) (length s)) (eqb (getD s at 0) dot) _ _
+    (λ _. within-more versionPartMost (at + 1) (length s) (numberAt s (at + 1) versionPartMost) (number-within s (at + 1) versionPartMost))
     (λ _. tt)
 
 module _ (s : List ℕ) (at most : ℕ) (x : Number) (n : ℕ) (next : Cursor) (e : x ≡ numberAt s at most) (v : x ≡ Value n next) where
@@ -83,10 +83,10 @@ module _ (s : List ℕ) (at most : ℕ) (x : Number) (n : ℕ) (next : Cursor) (
   number-inside = found-number .2
 
 module _ (s : List ℕ) (at : ℕ) (x : Number) (n : ℕ) (next : Cursor) (e : x ≡ dottedAt s at) (v : x ≡ Value n next) where
-  found-dotted : Within partMost (at + 1) (length s) (Value n next)
+  found-dotted : Within versionPartMost (at + 1) (length s) (Value n next)
   found-dotted = rw (← e, v) at (dotted-within s at)
 
-  pub dotted-most : n ≤ partMost
+  pub dotted-most : n ≤ versionPartMost
   dotted-most = found-dotted .0
 
   pub dotted-after : at < next .at
@@ -99,29 +99,29 @@ module _ (s : List ℕ) (at : ℕ) (x : Number) (n : ℕ) (next : Cursor) (e : x
 
 -- the limit of a version's parts, as a test and as facts
 module _ (v : Version) where
-  pub parts-within : v .first ≤ partMost → v .second ≤ partMost → v .third ≤ partMost → v .fourth ≤ partMost → versionWithin v ≡ true
+  pub parts-within : v .first ≤ versionPartMost → v .second ≤ versionPartMost → v .third ≤ versionPartMost → v .fourth ≤ versionPartMost → versionWithin v ≡ true
   unfolding versionWithin
   parts-within a b c d =
       and-both _ _ (le-leb _ _ a) (and-both _ _ (le-leb _ _ b) (and-both _ _ (le-leb _ _ c) (le-leb _ _ d)))
 
   module _ (w : versionWithin v ≡ true) where
-    pub first-within : v .first ≤ partMost
+    pub first-within : v .first ≤ versionPartMost
     unfolding versionWithin
     first-within = leb-true _ _ (and-left _ _ w)
 
-    pub second-within : v .second ≤ partMost
+    pub second-within : v .second ≤ versionPartMost
     unfolding versionWithin
-    second-within = leb-true _ _ (and-left _ _ (and-right (leb (v .first) partMost) _ w))
+    second-within = leb-true _ _ (and-left _ _ (and-right (leb (v .first) versionPartMost) _ w))
 
-    pub third-within : v .third ≤ partMost
+    pub third-within : v .third ≤ versionPartMost
     unfolding versionWithin
-    third-within = leb-true _ _ (and-left _ _ (and-right (leb (v .second) partMost) _ (and-right (leb (v .first) partMost) _ w)))
+    third-within = leb-true _ _ (and-left _ _ (and-right (leb (v .second) versionPartMost) _ (and-right (leb (v .first) versionPartMost) _ w)))
 
-    pub fourth-within : v .fourth ≤ partMost
+    pub fourth-within : v .fourth ≤ versionPartMost
     unfolding versionWithin
     fourth-within =
         leb-true _ _
-        (and-right (leb (v .third) partMost) _ (and-right (leb (v .second) partMost) _ (and-right (leb (v .first) partMost) _ w)))
+        (and-right (leb (v .third) versionPartMost) _ (and-right (leb (v .second) versionPartMost) _ (and-right (leb (v .first) versionPartMost) _ w)))
 
 abbrev pub WithinVersion : ℕ → ℕ → VersionRead → Type 0
 WithinVersion p e (version.Value v next) = (versionWithin v ≡ true) × (p ≤ next .at) × (next .at ≤ e)
@@ -130,19 +130,19 @@ WithinVersion p e version.IllFormed = Unit {0}
 pub version-within : (s : List ℕ) (at : ℕ) → WithinVersion (at + 1) (length s) (versionAt s at)
 unfolding versionAt
 version-within s at =
-    then-cases (WithinVersion (at + 1) (length s)) version.IllFormed (numberAt s at partMost) _ tt λ a p ea.
+    then-cases (WithinVersion (at + 1) (length s)) version.IllFormed (numberAt s at versionPartMost) _ tt λ a p ea.
     then-cases (WithinVersion (at + 1) (length s)) version.IllFormed (dottedAt s (p .at)) _ tt λ b q eb.
     then-cases (WithinVersion (at + 1) (length s)) version.IllFormed (dottedAt s (q .at)) _ tt λ c t ec.
     then-cases (WithinVersion (at + 1) (length s)) version.IllFormed (dottedAt s (t .at)) _ tt λ d next ed. (
       parts-within
           (record { first = a; second = b; third = c; fourth = d })
-          (number-most s at partMost _ a p refl ea)
+          (number-most s at versionPartMost _ a p refl ea)
           (dotted-most s (p .at) _ b q refl eb)
           (dotted-most s (q .at) _ c t refl ec)
           (dotted-most s (t .at) _ d next refl ed),
       omega (
         arith,
-        number-after s at partMost _ a p refl ea,
+        number-after s at versionPartMost _ a p refl ea,
         dotted-after s (p .at) _ b q refl eb,
         dotted-after s (q .at) _ c t refl ec,
         dotted-after s (t .at) _ d next refl ed,

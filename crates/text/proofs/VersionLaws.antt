@@ -8,14 +8,14 @@ use Rattle.base.specs.Quoted.{dot}
 use Rattle.text.specs.declared.number.Number.{Number}
 use Rattle.text.specs.declared.number.Number.the-variants.{IllFormed}
 use Rattle.text.specs.Number.{numberAt}
-use Rattle.text.specs.Version.{partMost, dottedAt}
+use Rattle.text.specs.Version.{versionPartMost, dottedAt}
 
 module _ (s : List ℕ) (at : ℕ) where
   pub dotted-at-end : length s ≤ at → IllFormed ≡ dottedAt s at
   unfolding dottedAt
   dotted-at-end h = rw (List·getD-eq-default s 0 h)
 
-  pub dotted-on : (x : Number) → x ≡ numberAt s (at + 1) partMost → getD s at 0 ≡ dot → x ≡ dottedAt s at
+  pub dotted-on : (x : Number) → x ≡ numberAt s (at + 1) versionPartMost → getD s at 0 ≡ dot → x ≡ dottedAt s at
   unfolding dottedAt
   dotted-on x q e = rw (eq-eqb _ _ e) q
 

@@ -15,21 +15,21 @@ use Rattle.text.specs.Digits.{digits}
 use Rattle.text.specs.Then.{andThen, andThenVersion}
 
 -- "65,535": the one place in the definitions that has this limit
-abbrev pub partMost : ℕ
-partMost = 65535
+abbrev pub versionPartMost : ℕ
+versionPartMost = 65535
 
 -- "four parts of 0 to 65,535"
 unfoldable pub versionWithin : Version → Bool
-versionWithin v = leb (v .first) partMost && (leb (v .second) partMost && (leb (v .third) partMost && leb (v .fourth) partMost))
+versionWithin v = leb (v .first) versionPartMost && (leb (v .second) versionPartMost && (leb (v .third) versionPartMost && leb (v .fourth) versionPartMost))
 
 -- a dot and the part behind it. Past the end `getD` gives 0, which is no dot
 unfoldable pub dottedAt : List ℕ → ℕ → Number
-dottedAt s at = cond (eqb (getD s at 0) dot) (numberAt s (at + 1) partMost) number.IllFormed
+dottedAt s at = cond (eqb (getD s at 0) dot) (numberAt s (at + 1) versionPartMost) number.IllFormed
 
 -- the version at a position of a text
 unfoldable pub versionAt : List ℕ → ℕ → VersionRead
 versionAt s at =
-    andThen IllFormed (numberAt s at partMost) λ first behind-first.
+    andThen IllFormed (numberAt s at versionPartMost) λ first behind-first.
     andThen IllFormed (dottedAt s (behind-first .at)) λ second behind-second.
     andThen IllFormed (dottedAt s (behind-second .at)) λ third behind-third.
     andThen IllFormed (dottedAt s (behind-third .at)) λ fourth next.

@@ -14,7 +14,7 @@ pub struct Version {
 }
 
 // The largest value of a part: the one place in the code that has this limit.
-pub const PART_MOST: u32 = 65535;
+pub const VERSION_PART_MOST: u32 = 65535;
 
 // What reading a version finds: the version and the cursor behind it.
 pub enum VersionRead {
@@ -31,7 +31,7 @@ fn dotted_at(s: &[u8], cursor: Cursor) -> Number
         return Number::IllFormed;
     }
     if s[at] == b'.' {
-        number_at(s, Cursor { at: at + 1 }, PART_MOST)
+        number_at(s, Cursor { at: at + 1 }, VERSION_PART_MOST)
     } else {
         Number::IllFormed
     }
@@ -41,7 +41,7 @@ fn dotted_at(s: &[u8], cursor: Cursor) -> Number
 pub fn version_at(s: &[u8], cursor: Cursor) -> VersionRead
     ensures { λ r. ⌜ r ≡ versionAt (now (s .entry)) (cursor .at) ⌝ }
 {
-    let Number::Value(first, behind_first) = number_at(s, cursor, PART_MOST) else {
+    let Number::Value(first, behind_first) = number_at(s, cursor, VERSION_PART_MOST) else {
         return VersionRead::IllFormed;
     };
     let Number::Value(second, behind_second) = dotted_at(s, behind_first) else {

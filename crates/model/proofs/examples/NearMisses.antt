@@ -10,7 +10,7 @@ use lib.ListN.{replicate}
 use Rattle.base.specs.Quoted.{bytes}
 use Rattle.clusters.specs.Table.{Table}
 use Rattle.clusters.specs.Action.{install}
-use Rattle.model.specs.State as st
+use Rattle.model.specs.State as states
 use Rattle.model.specs.State.{idle, ready, verifying, activated, rollingBack, verifyingRollsBack, cleaningUp, activatedCleansUp, Entry, State, state}
 use Rattle.model.specs.Calls.{transferStart, transferData, deleteTransfer, process, work, cancel, revert, activate, rollback, finish, report, givenId, done, working, processed, cancelled, inconsistent, preActivationFailed, missingDependencies, verificationFailed, notAbleToRollback, notAbleToRevert, cleaningFailed}
 use Rattle.model.specs.Sound.{sound}
@@ -91,7 +91,7 @@ abbrev readyWith : List Entry → State
 readyWith entries =
     state
     ready
-    (record { packages = record { id = 1; size = 9; received = 9; blocks = 1; state = st.processed } ∷ []; next = 2 })
+    (record { packages = record { id = 1; size = 9; received = 9; blocks = 1; state = states.processed } ∷ []; next = 2 })
     (record { beginning = loadedTable; listed = entries })
     none
 

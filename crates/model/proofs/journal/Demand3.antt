@@ -2,17 +2,21 @@
 -- the invariant; what demand 3 says follows from the invariant at the end of the list. Assumes nothing.
 use mathlib.Core.Path.{_≡_, refl, sym, ap, _∙_}
 use mathlib.Core.Bool.{true, false}
-use mathlib.Core.List.{List, [], _∷_, List·Memᴰ, List·Memᴰ·not-nil, List·Memᴰ·cases-cons}
+use mathlib.Core.List.{List, [], _∷_, _++_, List·Memᴰ, List·Memᴰ·not-nil, List·Memᴰ·cases-cons}
 use mathlib.Core.Logic.{inl, inr}
+use mathlib.Core.Option.{Option, none, some}
 use lib.ListN.{length}
+use borrow.Author.Tests.{not-true}
 use Rattle.base.proofs.Tests.{clash}
-use Rattle.model.specs.State.{isIdle, State, Store}
+use Rattle.manifest.specs.Package.{Manifest, consistent, readPackage}
+use Rattle.model.specs.State.{isIdle, isProcessing, Work, State, Store}
 use Rattle.model.specs.Calls.{Call, refused}
 use Rattle.model.specs.Tables.{running}
+use Rattle.model.specs.Sound.{keptSound}
 use Rattle.model.specs.Step.{step}
 use Rattle.model.specs.Run.{Made, run}
 use Rattle.model.specs.Journal.{Journal, noted, journal}
-use Rattle.model.specs.Demand3.{TableAtReturn, AgreesWith, Demand3}
+use Rattle.model.specs.Demand3.{TableAtReturn, sessionGoesOn, AgreesWith, Demand3}
 use Rattle.model.proofs.soundness.SoundFacts.{sound-says}
 use Rattle.model.proofs.soundness.KeptSound.{kept-sound}
 use Rattle.model.proofs.store.LengthKept.{step-keeps-length}
@@ -21,11 +25,12 @@ use Rattle.model.proofs.transitions.Refused.{step-cases, without-refuse
 use Rattle.model.proofs.journal.Lists.{always}
 use Rattle.model.proofs.store.AreaLaws.{declared-plus-free}
 use Rattle.model.proofs.store.Contents.{area-holds, end-holds, received-joined}
-use Rattle.model.proofs.journal.Invariant.{Invariant}
+use Rattle.model.proofs.journal.Invariant.{manifestKept, KeptFrom, Invariant}
 use Rattle.model.proofs.journal.InvariantKept.{journalAfter, keeps}
 use Rattle.model.proofs.journal.NeverUnsound.{never-unsound}
 use Rattle.model.proofs.store.StoreStays.{store-stays}
-use Rattle.model.proofs.journal.Returns.{return-is, no-third}
+use Rattle.model.proofs.journal.Returns.{return-is, idle-table, no-third}
+use Rattle.model.proofs.journal.SessionTable.{session-beginning}
 
 -- ---- one call
 
@@ -61,6 +66,7 @@ agrees j s store i =
       runningIsR = sym (i .tables .table);
       beginningIsB = sym (i .tables .beginning);
       idleAgrees = sym (i .tables .at-idle);
+      listedIsA = sym (i .tables .listing);
       atReturn = λ call. step-returns j s store call i;
       noThird = no-third j s (i .tables);
       staysSound = i .is-sound;
@@ -72,9 +78,34 @@ agrees j s store i =
       declaredPlusFree = declared-plus-free s store (i .is-sound);
     }
 
+-- B of a session is the running table of the Idle state that it began from
+pub session-began : (j : Journal) (s : State) (store : Store) → Invariant j s store → (before session : List Call)
+    → isIdle (run s store before .state .phase) ≡ true
+    → sessionGoesOn (run s store before .state) (run s store before .store) session ≡ true
+    → journal j (run s store (before ++ session) .made) .B ≡ running (run s store before .state)
+unfolding running
+session-began j s store i before session e h =
+    list-keeps j s store (before ++ session) i .tables .beginning ∙ session-beginning s store before session h ∙ sym (idle-table _ _ e)
+
 pub demand3-from : (j : Journal) (s : State) (store : Store) → Invariant j s store → (calls : List Call) → Demand3 j s store calls
 demand3-from j s store i calls =
-    record { afterwards = agrees _ _ _ (list-keeps j s store calls i); withoutRefused = without-refused s store calls }
+    record {
+      afterwards = agrees _ _ _ (list-keeps j s store calls i);
+      afterEach = λ before rest e. agrees _ _ _ (list-keeps j s store before i);
+      sessionBegan = λ before session rest e. session-began j s store i before session;
+      withoutRefused = without-refused s store calls;
+    }
+
+-- in Processing the joined blocks of the last accepted Process read as a consistent package
+pub processing-reads : (j : Journal) (s : State) (store : Store) → Invariant j s store → isProcessing (s .phase) ≡ true
+    → (m : Manifest) × (readPackage (j .blocks (j .lastProcess)) ≡ consistent m)
+unfolding keptSound
+processing-reads j s store i e = go (s .work) (sound-says s store (i .is-sound) .keptValues) (i .keptValues e)
+  where
+    go : (remaining : Option Work) → keptSound (s .phase) (s .session) (s .transfers .packages) remaining ≡ true
+        → KeptFrom j (s .transfers .packages) remaining → (m : Manifest) × (readPackage (j .blocks (j .lastProcess)) ≡ consistent m)
+    go none h k = clash e (not-true _ h)
+    go (some w) h k = (manifestKept w, k .read)
 
 -- no call of a list is refused by 1
 pub never-refused-by-1 : (calls : List Call) (j : Journal) (s : State) (store : Store) → Invariant j s store

@@ -68,4 +68,4 @@ pub record Invariant (j : Journal) (s : State) (store : Store) : Type 0 where
   pub areas : Holds (j .blocks) (s .transfers .packages) store
   -- ids that were not given yet have no blocks
   pub fresh : (id : ℕ) → s .transfers .next ≤ id → j .blocks id ≡ []
-  pub kept : isProcessing (s .phase) ≡ true → KeptFrom j (s .transfers .packages) (s .work)
+  pub keptValues : isProcessing (s .phase) ≡ true → KeptFrom j (s .transfers .packages) (s .work)

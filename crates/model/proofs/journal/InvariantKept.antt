@@ -13,7 +13,7 @@ use Rattle.base.proofs.Tests.{clash}
 use Rattle.manifest.specs.Package.{readPackage}
 use Rattle.model.specs.State.{PackageState, transferring, transferred, beingProcessed, processed, Package, Phase, isProcessing, Entry, Session, Work, State, state, Store}
 use Rattle.model.specs.Calls.{Call, transferData, Answer, done}
-use Rattle.model.specs.Areas.{kept, inState, withBlock, newPackage, isTransferring, isTransferred, isBeingProcessed, isProcessed, countIn, processingId}
+use Rattle.model.specs.Areas.{remaining, inState, withBlock, newPackage, isTransferring, isTransferred, isBeingProcessed, isProcessed, countIn, processingId}
 use Rattle.model.specs.Sound.{sound, receivedSound}
 use Rattle.model.specs.Step.{Outcome, cleanedUp}
 use Rattle.model.specs.Journal.{Journal, workNoted, acceptedNoted, noted}
@@ -96,7 +96,7 @@ keeps j {s} {store} ok then (starts size h7 h16 h17 h18) i =
       tables = i .tables;
       areas = holds-started (j .blocks) (s .transfers .next) size ps store (i .fresh (s .transfers .next) (omega arith)) h17 (i .areas);
       fresh = λ id l. i .fresh id (omega arith);
-      kept = λ e. kept-as j ps _ (s .work) (id-started ps (newPackage (s .transfers .next) size) refl) (i .kept e);
+      keptValues = λ e. kept-as j ps _ (s .work) (id-started ps (newPackage (s .transfers .next) size) refl) (i .keptValues e);
     }
 keeps j {s} {store} ok then (puts-block id counter block p e h5 h6 h7 h) i =
     let ps = s .transfers .packages in
@@ -115,9 +115,9 @@ keeps j {s} {store} ok then (puts-block id counter block p e h5 h6 h7 h) i =
       };
       areas = holds-put (j .blocks) id block 0 (s .transfers .next) ps p store (ok .rise) e h (i .areas);
       fresh = λ other l. joined-other (j .blocks) id block other (ne-eqb id other λ q. omega arith) ∙ i .fresh other l;
-      kept = λ z.
+      keptValues = λ z.
           kept-block j id block counter done ps _ (s .work) (id-changed id (withBlock (length block)) (λ q. refl) ps p e refl)
-          (id-other id 0 (s .transfers .next) ps p (ok .rise) (one-processing _ _ z (ok .processing)) e busy) (i .kept z);
+          (id-other id 0 (s .transfers .next) ps p (ok .rise) (one-processing _ _ z (ok .processing)) e busy) (i .keptValues z);
     }
 keeps j {s} {store} ok then (exits id p m e h5 h8 h9) i =
     let ps = s .transfers .packages in
@@ -126,8 +126,8 @@ keeps j {s} {store} ok then (exits id p m e h5 h8 h9) i =
       tables = i .tables;
       areas = holds-state (j .blocks) id transferred ps store (i .areas);
       fresh = i .fresh;
-      kept = λ z.
-          kept-as j ps _ (s .work) (id-changed id (inState transferred) (λ q. refl) ps p e (sym (not-being (p .state) h5))) (i .kept z);
+      keptValues = λ z.
+          kept-as j ps _ (s .work) (id-changed id (inState transferred) (λ q. refl) ps p e (sym (not-being (p .state) h5))) (i .keptValues z);
     }
 keeps j {s} {store} ok then (deletes id p e h5 h5′) i =
     let ps = s .transfers .packages in
@@ -136,10 +136,10 @@ keeps j {s} {store} ok then (deletes id p e h5 h5′) i =
       tables = i .tables;
       areas = holds-deleted (j .blocks) (λ q. not (eqb id (q .id))) ps store (i .areas);
       fresh = i .fresh;
-      kept = λ z.
+      keptValues = λ z.
           kept-as j ps _ (s .work)
           (id-kept (λ q. not (eqb id (q .id))) ps
-          (keeps-others isBeingProcessed id 0 (s .transfers .next) ps p (ok .rise) e h5)) (i .kept z);
+          (keeps-others isBeingProcessed id 0 (s .transfers .next) ps p (ok .rise) e h5)) (i .keptValues z);
     }
 keeps j {s} {store} ok then (processes id p m rest e h5 h9 h) i =
     let ps = s .transfers .packages in
@@ -151,7 +151,7 @@ keeps j {s} {store} ok then (processes id p m rest e h5 h9 h) i =
       tables = t .tables;
       areas = holds-state (j .blocks) id beingProcessed ps store (i .areas);
       fresh = i .fresh;
-      kept = λ z. record {
+      keptValues = λ z. record {
         last = sym (id-begun id (inState beingProcessed) (λ q. refl) ps p e none-yet refl);
         read = ap readPackage (sym (whole-area (j .blocks) ps store (i .areas) id p e full)) ∙ h9;
       };
@@ -162,7 +162,7 @@ keeps j ok then (works-on w n c l) i =
       tables = i .tables;
       areas = i .areas;
       fresh = i .fresh;
-      kept = λ z. record { last = i .kept z .last; read = i .kept z .read };
+      keptValues = λ z. record { last = i .keptValues z .last; read = i .keptValues z .read };
     }
 keeps j ok then (leaves {t} {session} {store} w n {answer} f) i =
     let told = leaves-told j session f (i .tables) in
@@ -171,17 +171,17 @@ keeps j ok then (leaves {t} {session} {store} w n {answer} f) i =
       tables = told .tables;
       areas = areas-told told (holds-state (j .blocks) (processingId (t .packages)) transferred (t .packages) store (i .areas));
       fresh = fresh-told told (i .fresh);
-      kept = λ z. tt;
+      keptValues = λ z. tt;
     }
 keeps j ok then (is-processed {t} {session} {store} w n c e) i =
     let entry : Entry = record { id = processingId (t .packages); action = w .action } in
-    let told = processed-told j session (t .packages) w n entry refl (i .kept refl) (i .tables) in
+    let told = processed-told j session (t .packages) w n entry refl (i .keptValues refl) (i .tables) in
     record {
       is-sound = then;
       tables = told .tables;
       areas = areas-told told (holds-state (j .blocks) (processingId (t .packages)) processed (t .packages) store (i .areas));
       fresh = fresh-told told (i .fresh);
-      kept = λ z. tt;
+      keptValues = λ z. tt;
     }
 keeps j ok then (cancels w id e) i =
     record {
@@ -189,7 +189,7 @@ keeps j ok then (cancels w id e) i =
       tables = i .tables;
       areas = i .areas;
       fresh = i .fresh;
-      kept = λ z. record { last = i .kept z .last; read = i .kept z .read };
+      keptValues = λ z. record { last = i .keptValues z .last; read = i .keptValues z .read };
     }
 keeps j ok then (moves {session = session} g) i =
     let told = moves-told j session g (i .tables) in
@@ -198,7 +198,7 @@ keeps j ok then (moves {session = session} g) i =
       tables = told .tables;
       areas = areas-told told (i .areas);
       fresh = fresh-told told (i .fresh);
-      kept = λ z. clash z (moves-elsewhere g .1);
+      keptValues = λ z. clash z (moves-elsewhere g .1);
     }
 keeps j ok then (ends {t = t} {session = session} {store = store} g) i =
     let told = ends-told j session g (i .tables) in
@@ -207,5 +207,5 @@ keeps j ok then (ends {t = t} {session = session} {store = store} g) i =
       tables = told .tables;
       areas = areas-told told (holds-deleted (j .blocks) (λ q. not (isProcessed (q .state))) (t .packages) store (i .areas));
       fresh = fresh-told told (i .fresh);
-      kept = λ z. absurd (false≢true z);
+      keptValues = λ z. absurd (false≢true z);
     }

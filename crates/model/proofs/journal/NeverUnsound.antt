@@ -17,12 +17,12 @@ use Rattle.model.proofs.transitions.Accepting.{accepted-is}
 use Rattle.model.proofs.transitions.Refused.{step-cases, not-refused}
 
 -- some refusal of the list has the number
-unfoldable hasNumber : ℕ → List Refusal → Bool
+unfoldable pub hasNumber : ℕ → List Refusal → Bool
 hasNumber number [] = false
 hasNumber number (r ∷ rs) = eqb number (r .number) || hasNumber number rs
 
 -- the number of the first that applies is one of the list's
-first-listed : (number : ℕ) (rs : List Refusal) → firstRefusal rs ≡ some number → hasNumber number rs ≡ true
+pub first-listed : (number : ℕ) (rs : List Refusal) → firstRefusal rs ≡ some number → hasNumber number rs ≡ true
 unfolding firstRefusal hasNumber
 first-listed number [] e = none-some e
 first-listed number (r ∷ rs) e = go (r .applies) e (first-listed number rs)

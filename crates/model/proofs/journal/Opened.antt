@@ -11,7 +11,7 @@ use Rattle.model.specs.Calls.{done, accepted}
 use Rattle.model.specs.Tables.{runningIn}
 use Rattle.model.specs.Sound.{sound}
 use Rattle.model.specs.Step.{Outcome}
-use Rattle.model.specs.Load.{tableOr, loadedState, load}
+use Rattle.model.specs.Load.{tableOrEmpty, loadedState, load}
 use Rattle.model.specs.Journal.{opened}
 use Rattle.model.proofs.soundness.LoadSound.{load-is, load-sound, load-accepted}
 use Rattle.model.proofs.store.Contents.{areasBytes}
@@ -26,15 +26,15 @@ opened-invariant table first size h =
       tables = record { beginning = refl; listing = refl; table = refl; at-idle = refl; direction = tt; rolled-back = refl };
       areas = record { filled = tt; behind = size; bytes = refl };
       fresh = λ id l. refl;
-      kept = λ e. absurd (false≢true e);
+      keptValues = λ e. absurd (false≢true e);
     }
 
 pub load-invariant : (s : State) (list : List ℕ) (first : ℕ) (store : Store) → load s list first store .reply ≡ accepted done
-    → Invariant (opened (tableOr (readList list))) (load s list first store .state) (load s list first store .store)
+    → Invariant (opened (tableOrEmpty (readList list))) (load s list first store .state) (load s list first store .store)
 load-invariant s list first store e =
     let h = load-accepted s list first store e in
     let same = load-is s list first store h in
-    let table = tableOr (readList list) in
+    let table = tableOrEmpty (readList list) in
     subst (λ (o : Outcome). Invariant (opened table) (o .state) (o .store)) (sym same)
     (opened-invariant table first (length store)
     (subst (λ (o : Outcome). sound (o .state) (o .store) ≡ true) same (load-sound s list first store h)))

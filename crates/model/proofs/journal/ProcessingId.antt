@@ -8,7 +8,7 @@ use lib.Dec.{eqb}
 use borrow.Author.Tests.{eqb-true}
 use Rattle.base.proofs.Tests.{bool-cases, clash}
 use Rattle.model.specs.State.{Package}
-use Rattle.model.specs.Areas.{find, kept, changed, isBeingProcessed, countIn, processingId}
+use Rattle.model.specs.Areas.{find, remaining, changed, isBeingProcessed, countIn, processingId}
 use Rattle.model.specs.Sound.{packagesRise}
 use Rattle.model.proofs.soundness.Packages.{found-id}
 use Rattle.model.proofs.soundness.Counts.{keepsAll}
@@ -28,8 +28,8 @@ pub id-started : (ps : List Package) (p : Package) → isBeingProcessed (p .stat
 id-started ps p n = id-is (ps ++ p ∷ []) ∙ of-started idOf ps p n ∙ sym (id-is ps)
 
 pub id-kept : (keeps : Package → Bool) (ps : List Package) → keepsAll isBeingProcessed keeps ps ≡ true
-    → processingId (kept keeps ps) ≡ processingId ps
-id-kept keeps ps h = id-is (kept keeps ps) ∙ of-kept idOf keeps ps h ∙ sym (id-is ps)
+    → processingId (remaining keeps ps) ≡ processingId ps
+id-kept keeps ps h = id-is (remaining keeps ps) ∙ of-kept idOf keeps ps h ∙ sym (id-is ps)
 
 module _ (id : ℕ) (change : Package → Package) (same : (q : Package) → change q .id ≡ q .id) where
   pub id-changed : (ps : List Package) (p : Package) → find id ps ≡ some p

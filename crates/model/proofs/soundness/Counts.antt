@@ -10,7 +10,7 @@ use lib.Dec.{eqb}
 use borrow.Author.Tests.{eqb-true, ne-eqb}
 use Rattle.base.proofs.Tests.{and-left, and-right, and-both, or-second, bool-cases, clash, none-some}
 use Rattle.model.specs.State.{PackageState, Package}
-use Rattle.model.specs.Areas.{find, kept, changed, countIn}
+use Rattle.model.specs.Areas.{find, remaining, changed, countIn}
 use Rattle.model.specs.Sound.{packagesRise}
 use Rattle.model.proofs.soundness.SoundFacts.{rises-says}
 
@@ -62,8 +62,8 @@ module _ (is : PackageState → Bool) (keeps : Package → Bool) where
       (bool-cases (is (p .state)) (λ b. or-second (not (is (p .state))) _ (h p b)) λ b. rw b refl)
       (keeps-each h ps)
 
-  pub count-kept : (ps : List Package) → keepsAll is keeps ps ≡ true → countIn is (kept keeps ps) ≡ countIn is ps
-  unfolding keepsAll countIn kept
+  pub count-kept : (ps : List Package) → keepsAll is keeps ps ≡ true → countIn is (remaining keeps ps) ≡ countIn is ps
+  unfolding keepsAll countIn remaining
   count-kept [] h = refl
   count-kept (p ∷ ps) h =
       let ih = count-kept ps (and-right (not (is (p .state)) || keeps p) _ h) in

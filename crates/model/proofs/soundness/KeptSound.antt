@@ -18,7 +18,7 @@ use Rattle.model.specs.State.{transferred, Package, cleaningUp, readyCle
 use Rattle.model.specs.Calls.{Call, done, transferStart, transferData, transferExit, deleteTransfer, process, work, cancel, revert, activate, rollback, finish, report}
 use Rattle.model.specs.Areas.{packageOf, areaOf, inState, withBlock, isTransferring, isBeingProcessed, isProcessed, processingId, find}
 use Rattle.model.specs.Sound.{sound, keptSound}
-use Rattle.model.specs.Step.{Outcome, movesTo, outcome, noted, areaRead, manifestOf, ownRefusals, refusals, workOn, taken, sumCompared, worked, act, settled, step}
+use Rattle.model.specs.Step.{Outcome, movesTo, outcome, withCancelNoted, areaRead, manifestOf, ownRefusals, refusals, workOn, taken, sumCompared, worked, act, settled, step}
 use Rattle.model.proofs.soundness.SoundFacts.{Sound, sound-says, sound-is}
 use Rattle.model.proofs.soundness.Packages.{Fine, known-is, found-fine}
 use Rattle.model.proofs.soundness.FinePackage.{transferring-is, transferred-is, part, fine-in-state, fine-with-block}
@@ -116,7 +116,7 @@ module _ (s : State) (store : Store) (ok : Sound s store) where
       → SoundAfter (sumCompared s store w)
   unfolding sumCompared
   compared-kept w k =
-      cond-cases SoundAfter (eqb (sumNumber (w .sums)) (w .sum)) _ _ (λ b. processed-sound s store ok w k) λ b. left-sound s store ok w k
+      cond-cases SoundAfter (eqb (sumNumber (w .runningSums)) (w .sum)) _ _ (λ b. processed-sound s store ok w k) λ b. left-sound s store ok w k
 
   worked-kept : (w : Work) (n : ℕ) → keptSound (s .phase) (s .session) (s .transfers .packages) (some w) ≡ true
       → SoundAfter (worked s store w n)
@@ -125,11 +125,11 @@ module _ (s : State) (store : Store) (ok : Sound s store) where
       let area = areaOf (processingId (s .transfers .packages)) (s .transfers .packages) store in
       let on = continued-sound s store ok w k n area in
       cond-cases SoundAfter (w .cancelNoted) _ _ (λ b. left-sound s store ok w k) λ b.
-      cond-cases SoundAfter (ltb (w .done + taken w n) (w .count)) _ _ (λ l. on) λ l. compared-kept (workOn w n area) (on .kept)
+      cond-cases SoundAfter (ltb (w .done + taken w n) (w .count)) _ _ (λ l. on) λ l. compared-kept (workOn w n area) (on .keptValues)
 
   work-kept : (n : ℕ) → SoundAfter (act s store (work n))
   unfolding act
-  work-kept n = go (s .work) (ok .kept)
+  work-kept n = go (s .work) (ok .keptValues)
     where
       go : (o : Option Work) → keptSound (s .phase) (s .session) (s .transfers .packages) o ≡ true
           → SoundAfter (elim o [ none ↦ movesTo s store (s .phase) done | some w ↦ worked s store w n ])
@@ -138,10 +138,10 @@ module _ (s : State) (store : Store) (ok : Sound s store) where
 
   cancel-kept : (id : ℕ) → SoundAfter (act s store (cancel id))
   unfolding act
-  cancel-kept id = go (s .work) (ok .kept)
+  cancel-kept id = go (s .work) (ok .keptValues)
     where
       go : (o : Option Work) → keptSound (s .phase) (s .session) (s .transfers .packages) o ≡ true
-          → SoundAfter (elim o [ none ↦ movesTo s store (s .phase) done | some w ↦ outcome done (state (s .phase) (s .transfers) (s .session) (some (noted w))) store ])
+          → SoundAfter (elim o [ none ↦ movesTo s store (s .phase) done | some w ↦ outcome done (state (s .phase) (s .transfers) (s .session) (some (withCancelNoted w))) store ])
       go none k = ok
       go (some w) k = noted-sound s store ok w k
 

@@ -13,7 +13,7 @@ use Rattle.model.specs.State.{Package, Phase, isProcessing, Session, Wor
 use Rattle.model.specs.Areas.{packageOf, processingId}
 use Rattle.model.specs.Tables.{staged}
 use Rattle.model.specs.Sound.{keptSound}
-use Rattle.model.specs.Step.{workBegun, bytesTaken, workOn, noted}
+use Rattle.model.specs.Step.{workBegun, bytesTaken, workOn, withCancelNoted}
 use Rattle.model.proofs.soundness.SoundFacts.{WorkFacts, work-says, work-is}
 
 -- ---- kept or cleared
@@ -50,7 +50,7 @@ module _ (phase : Phase) (session : Session) (ps : List Package) where
   kept-sized ps′ (some w) e h =
       let f = kept-says w h in
       and-both _ _ (kept-in-processing w h)
-      (work-is session ps′ w (record { within = f .within; passed = f .passed; size = f .size ∙ sym e; done = f .done; sum = f .sum; sums = f .sums }))
+      (work-is session ps′ w (record { within = f .within; passed = f .passed; size = f .size ∙ sym e; done = f .done; sum = f .sum; runningSums = f .runningSums }))
 
 -- ---- begun, continued, noted
 
@@ -59,7 +59,7 @@ module _ (session : Session) (ps : List Package) where
       → passes (staged session) (actions (session .listed)) (m .action) ≡ true → m .start + m .count ≡ packageOf (processingId ps) ps .size
       → m .sum ≤ 65535 → WorkFacts session ps (workBegun m)
   begun-facts m within passed size sum =
-      record { within = within; passed = passed; size = size; done = omega arith; sum = sum; sums = start-within }
+      record { within = within; passed = passed; size = size; done = omega arith; sum = sum; runningSums = start-within }
 
   pub continued-facts : (w : Work) (n : ℕ) (area : List ℕ) → WorkFacts session ps w → WorkFacts session ps (workOn w n area)
   continued-facts w n area f =
@@ -69,8 +69,8 @@ module _ (session : Session) (ps : List Package) where
         size = f .size;
         done = omega (arith, f .done);
         sum = f .sum;
-        sums = continued-within (w .sums) (bytesTaken w n area) (f .sums);
+        runningSums = continued-within (w .runningSums) (bytesTaken w n area) (f .runningSums);
       }
 
-  pub noted-facts : (w : Work) → WorkFacts session ps w → WorkFacts session ps (noted w)
-  noted-facts w f = record { within = f .within; passed = f .passed; size = f .size; done = f .done; sum = f .sum; sums = f .sums }
+  pub noted-facts : (w : Work) → WorkFacts session ps w → WorkFacts session ps (withCancelNoted w)
+  noted-facts w f = record { within = f .within; passed = f .passed; size = f .size; done = f .done; sum = f .sum; runningSums = f .runningSums }

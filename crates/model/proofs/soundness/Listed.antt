@@ -11,7 +11,7 @@ use lib.ListN.{length}
 use borrow.Author.Tests.{eqb-true, ne-eqb, lt-ltb, le-ltb, ltb-true}
 use Rattle.base.proofs.Tests.{and-left, and-right, and-both, bool-cases, or-cases, none-some}
 use Rattle.model.specs.State.{Package, Entry}
-use Rattle.model.specs.Areas.{find, kept, changed, isProcessed, countIn}
+use Rattle.model.specs.Areas.{find, remaining, changed, isProcessed, countIn}
 use Rattle.model.specs.Sound.{packagesRise, isListed, processedAsListed}
 use Rattle.model.proofs.soundness.SoundFacts.{rises-says}
 use Rattle.model.proofs.soundness.Counts.{one}
@@ -78,23 +78,23 @@ tied-started entries [] p e h = tied-is entries p [] e h
 tied-started entries (q ∷ ps) p e h = tied-is entries q (ps ++ p ∷ []) (tied-first entries q ps h) (tied-started entries ps p e (tied-rest entries q ps h))
 
 pub tied-kept : (entries : List Entry) (keeps : Package → Bool) (ps : List Package) → processedAsListed entries ps ≡ true
-    → processedAsListed entries (kept keeps ps) ≡ true
-unfolding kept
+    → processedAsListed entries (remaining keeps ps) ≡ true
+unfolding remaining
 tied-kept entries keeps [] h = h
 tied-kept entries keeps (p ∷ ps) h =
     let ih = tied-kept entries keeps ps (tied-rest entries p ps h) in
-    bool-cases (keeps p) (λ b. rw b (tied-is entries p (kept keeps ps) (tied-first entries p ps h) ih)) λ b. rw b ih
+    bool-cases (keeps p) (λ b. rw b (tied-is entries p (remaining keeps ps) (tied-first entries p ps h) ih)) λ b. rw b ih
 
 -- the packages that are not Processed, against the empty list
-pub tied-cleaned : (ps : List Package) → processedAsListed [] (kept (λ p. not (isProcessed (p .state))) ps) ≡ true
-unfolding kept isListed
+pub tied-cleaned : (ps : List Package) → processedAsListed [] (remaining (λ p. not (isProcessed (p .state))) ps) ≡ true
+unfolding remaining isListed
 tied-cleaned [] = unfold processedAsListed in refl
 tied-cleaned (p ∷ ps) =
     let ih = tied-cleaned ps in
-    bool-cases (isProcessed (p .state)) (λ b. rw b ih) λ b. rw b (tied-is [] p (kept (λ q. not (isProcessed (q .state))) ps) b ih)
+    bool-cases (isProcessed (p .state)) (λ b. rw b ih) λ b. rw b (tied-is [] p (remaining (λ q. not (isProcessed (q .state))) ps) b ih)
 
-pub none-cleaned : (ps : List Package) → countIn isProcessed (kept (λ p. not (isProcessed (p .state))) ps) ≡ 0
-unfolding kept countIn
+pub none-cleaned : (ps : List Package) → countIn isProcessed (remaining (λ p. not (isProcessed (p .state))) ps) ≡ 0
+unfolding remaining countIn
 none-cleaned [] = refl
 none-cleaned (p ∷ ps) =
     let ih = none-cleaned ps in

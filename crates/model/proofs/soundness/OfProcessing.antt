@@ -9,7 +9,7 @@ use native.Mathlib.Omega.{arith}
 use lib.Dec.{eqb}
 use Rattle.base.proofs.Tests.{and-left, and-right, bool-cases, none-some}
 use Rattle.model.specs.State.{Package}
-use Rattle.model.specs.Areas.{find, kept, changed, isBeingProcessed, countIn}
+use Rattle.model.specs.Areas.{find, remaining, changed, isBeingProcessed, countIn}
 use Rattle.model.proofs.soundness.Counts.{keepsAll, kept-where}
 
 module _ (of : Package → ℕ) where
@@ -25,8 +25,8 @@ module _ (of : Package → ℕ) where
   of-started (q ∷ ps) p n = ap (cond (isBeingProcessed (q .state)) (of q)) (of-started ps p n)
 
   pub of-kept : (keeps : Package → Bool) (ps : List Package) → keepsAll isBeingProcessed keeps ps ≡ true
-      → ofProcessing (kept keeps ps) ≡ ofProcessing ps
-  unfolding keepsAll ofProcessing kept
+      → ofProcessing (remaining keeps ps) ≡ ofProcessing ps
+  unfolding keepsAll ofProcessing remaining
   of-kept keeps [] h = refl
   of-kept keeps (p ∷ ps) h =
       let ih = of-kept keeps ps (and-right (not (isBeingProcessed (p .state)) || keeps p) _ h) in

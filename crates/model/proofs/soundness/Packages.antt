@@ -11,7 +11,7 @@ use lib.ListN.{length}
 use borrow.Author.Tests.{eqb-true, le-leb}
 use Rattle.base.proofs.Tests.{bool-cases, none-some}
 use Rattle.model.specs.State.{Package}
-use Rattle.model.specs.Areas.{declared, find, noPackage, packageOf, kept, newPackage, changed}
+use Rattle.model.specs.Areas.{declared, find, noPackage, packageOf, remaining, newPackage, changed}
 use Rattle.model.specs.Sound.{receivedSound, packagesRise}
 use Rattle.model.specs.Step.{unknown}
 use Rattle.model.proofs.soundness.SoundFacts.{rises-says, rises-is}
@@ -83,15 +83,15 @@ rise-started last next size (p ∷ ps) l z h =
 
 -- packages kept
 pub rise-kept : (keeps : Package → Bool) (last next : ℕ) (ps : List Package) → packagesRise last next ps ≡ true
-    → packagesRise last next (kept keeps ps) ≡ true
-unfolding kept
+    → packagesRise last next (remaining keeps ps) ≡ true
+unfolding remaining
 rise-kept keeps last next [] h = h
 rise-kept keeps last next (p ∷ ps) h =
     let r = rises-says last next p ps h in
     let ih = rise-kept keeps (p .id) next ps (r .rest) in
     bool-cases (keeps p)
-    (λ b. rw b (rises-is last next p (kept keeps ps) (record { over = r .over; below = r .below; sized = r .sized; received = r .received; blocks = r .blocks; rest = ih })))
-    λ b. rw b (rise-from last (p .id) next (kept keeps ps) (omega (arith, r .over)) ih)
+    (λ b. rw b (rises-is last next p (remaining keeps ps) (record { over = r .over; below = r .below; sized = r .sized; received = r .received; blocks = r .blocks; rest = ih })))
+    λ b. rw b (rise-from last (p .id) next (remaining keeps ps) (omega (arith, r .over)) ih)
 
 module _ (id : ℕ) (change : Package → Package) (same-id : (q : Package) → change q .id ≡ q .id) where
   -- a package changed into one that is fine
@@ -133,12 +133,12 @@ length-changed id change [] = refl
 length-changed id change (q ∷ ps) = let ih = length-changed id change ps in bool-cases (eqb id (q .id)) (λ b. rw b) λ b. rw b (ap suc ih)
 
 module _ (keeps : Package → Bool) where
-  pub declared-kept : (ps : List Package) → declared (kept keeps ps) ≤ declared ps
-  unfolding declared kept
+  pub declared-kept : (ps : List Package) → declared (remaining keeps ps) ≤ declared ps
+  unfolding declared remaining
   declared-kept [] = omega arith
   declared-kept (q ∷ ps) = let ih = declared-kept ps in bool-cases (keeps q) (λ b. rw b (omega arith)) λ b. rw b (omega arith)
 
-  pub length-kept : (ps : List Package) → length (kept keeps ps) ≤ length ps
-  unfolding kept
+  pub length-kept : (ps : List Package) → length (remaining keeps ps) ≤ length ps
+  unfolding remaining
   length-kept [] = omega arith
   length-kept (q ∷ ps) = let ih = length-kept ps in bool-cases (keeps q) (λ b. rw b (omega arith)) λ b. rw b (omega arith)

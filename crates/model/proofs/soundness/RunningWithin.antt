@@ -13,7 +13,7 @@ use Rattle.model.specs.Tables.{runningIn, running}
 use Rattle.model.specs.Calls.{done}
 use Rattle.model.specs.Sound.{storeMost, idMost, sound}
 use Rattle.model.specs.Step.{outcome}
-use Rattle.model.specs.Load.{tableOr, loadedState, load}
+use Rattle.model.specs.Load.{tableOrEmpty, loadedState, load}
 use Rattle.model.specs.Reading.{clusterInfo}
 use Rattle.model.proofs.soundness.SoundFacts.{Sound, sound-says}
 use Rattle.model.proofs.soundness.SoundSession.{staged-within}
@@ -48,7 +48,7 @@ module _ (s : State) (store : Store) (h : sound s store ≡ true) where
       → load other (clusterInfo s) first store′ ≡ outcome done (loadedState (running s) first) (replicate (length store′) 0)
   info-loads other first store′ least most room =
       load-is other (clusterInfo s) first store′ (loads-is other (clusterInfo s) first store′ (running s) info-read least most room)
-      ∙ ap (λ (o : Option Table). outcome done (loadedState (tableOr o) first) (replicate (length store′) 0)) info-read
+      ∙ ap (λ (o : Option Table). outcome done (loadedState (tableOrEmpty o) first) (replicate (length store′) 0)) info-read
 
 pub loaded-running : (table : Table) (first : ℕ) → running (loadedState table first) ≡ table
 unfolding running runningIn

@@ -62,7 +62,7 @@ pub record WorkFacts (session : Session) (packages : List Package) (w : Work) : 
   pub size : w .start + w .count ≡ packageOf (processingId packages) packages .size
   pub done : w .done ≤ w .count
   pub sum : w .sum ≤ 65535
-  pub sums : sumsWithin (w .sums) ≡ true
+  pub runningSums : sumsWithin (w .runningSums) ≡ true
 
 module _ (session : Session) (packages : List Package) (w : Work) where
   pub work-says : workSound session packages w ≡ true → WorkFacts session packages w
@@ -78,7 +78,7 @@ module _ (session : Session) (packages : List Package) (w : Work) where
         size = eqb-true _ _ (and-left _ _ size);
         done = leb-true _ _ (and-left _ _ done);
         sum = leb-true _ _ (and-left _ _ sum);
-        sums = and-right (leb (w .sum) 65535) _ sum;
+        runningSums = and-right (leb (w .sum) 65535) _ sum;
       }
 
   pub work-is : WorkFacts session packages w → workSound session packages w ≡ true
@@ -86,7 +86,7 @@ module _ (session : Session) (packages : List Package) (w : Work) where
   work-is f =
       and-both _ _ (f .within)
       (and-both _ _ (f .passed)
-      (and-both _ _ (eq-eqb _ _ (f .size)) (and-both _ _ (le-leb _ _ (f .done)) (and-both _ _ (le-leb _ _ (f .sum)) (f .sums)))))
+      (and-both _ _ (eq-eqb _ _ (f .size)) (and-both _ _ (le-leb _ _ (f .done)) (and-both _ _ (le-leb _ _ (f .sum)) (f .runningSums)))))
 
 -- ---- a state with its store
 
@@ -102,7 +102,7 @@ pub record Sound (s : State) (store : Store) : Type 0 where
   pub turn : passInTurn (s .session .beginning) [] (actions (s .session .listed)) ≡ true
   pub entries : length (s .session .listed) ≡ countIn isProcessed (s .transfers .packages)
   pub listed : processedAsListed (s .session .listed) (s .transfers .packages) ≡ true
-  pub kept : keptSound (s .phase) (s .session) (s .transfers .packages) (s .work) ≡ true
+  pub keptValues : keptSound (s .phase) (s .session) (s .transfers .packages) (s .work) ≡ true
   pub processing : countIn isBeingProcessed (s .transfers .packages) ≡ cond (isProcessing (s .phase)) 1 0
   pub fits : listFits (s .phase) (s .session .listed) ≡ true
 
@@ -135,7 +135,7 @@ module _ (s : State) (store : Store) where
         turn = and-right (actionsWithin (actions (s .session .listed))) _ acts;
         entries = eqb-true _ _ (and-left _ _ list);
         listed = and-right (eqb (length (s .session .listed)) (countIn isProcessed ps)) _ list;
-        kept = and-left _ _ h;
+        keptValues = and-left _ _ h;
         processing = eqb-true _ _ (and-left _ _ phase);
         fits = and-right (processingSound (s .phase) ps) _ phase;
       }
@@ -149,5 +149,5 @@ module _ (s : State) (store : Store) where
       (and-both _ _ (le-leb _ _ (f .few)) (and-both _ _ (le-leb _ _ (f .begun)) (and-both _ _ (le-leb _ _ (f .ids)) (f .rise))))
       (and-both (sessionSound (s .session)) _ (and-both _ _ (f .beginning) (and-both _ _ (f .within) (f .turn)))
       (and-both (listSound (s .session .listed) ps) _ (and-both _ _ (eq-eqb _ _ (f .entries)) (f .listed))
-      (and-both (keptSound (s .phase) (s .session) ps (s .work)) _ (f .kept)
+      (and-both (keptSound (s .phase) (s .session) ps (s .work)) _ (f .keptValues)
       (and-both (processingSound (s .phase) ps) _ (eq-eqb _ _ (f .processing)) (f .fits))))))

@@ -16,7 +16,7 @@ use Rattle.model.specs.State.{PackageState, transferred, beingProcessed,
 use Rattle.model.specs.Areas.{find, inState, changed, isTransferring, isBeingProcessed, isProcessed, countIn, processingId}
 use Rattle.model.specs.Tables.{staged}
 use Rattle.model.specs.Sound.{isListed, keptSound, listFits}
-use Rattle.model.specs.Step.{withPackages, workBegun, workOn, noted, phaseAfter, listedWith}
+use Rattle.model.specs.Step.{withPackages, workBegun, workOn, withCancelNoted, phaseAfter, listedWith}
 use Rattle.model.proofs.soundness.SoundFacts.{WorkFacts, Sound}
 use Rattle.model.proofs.soundness.Packages.{Fine, found-fine, rise-changed}
 use Rattle.model.proofs.soundness.FinePackage.{processing-is, whole, fine-in-state}
@@ -94,7 +94,7 @@ module _ (s : State) (store : Store) (ok : Sound s store) where
           turn = ok .turn;
           entries = ok .entries;
           listed = ok .listed;
-          kept = kept-is (s .phase) (s .session) (s .transfers .packages) w′ (kept-in-processing (s .phase) (s .session) (s .transfers .packages) w is-kept) f;
+          keptValues = kept-is (s .phase) (s .session) (s .transfers .packages) w′ (kept-in-processing (s .phase) (s .session) (s .transfers .packages) w is-kept) f;
           processing = ok .processing;
           fits = ok .fits;
         }
@@ -105,8 +105,8 @@ module _ (s : State) (store : Store) (ok : Sound s store) where
     pub continued-sound : (n : ℕ) (area : List ℕ) → Sound (state (s .phase) (s .transfers) (s .session) (some (workOn w n area))) store
     continued-sound n area = with-work (workOn w n area) (continued-facts (s .session) (s .transfers .packages) w n area facts)
 
-    pub noted-sound : Sound (state (s .phase) (s .transfers) (s .session) (some (noted w))) store
-    noted-sound = with-work (noted w) (noted-facts (s .session) (s .transfers .packages) w facts)
+    pub noted-sound : Sound (state (s .phase) (s .transfers) (s .session) (some (withCancelNoted w))) store
+    noted-sound = with-work (withCancelNoted w) (noted-facts (s .session) (s .transfers .packages) w facts)
 
     -- the package that is processing
     one-processing : countIn isBeingProcessed (s .transfers .packages) ≡ 1

@@ -14,7 +14,7 @@ use Rattle.clusters.proofs.Limits.{apply-all-within}
 use Rattle.model.specs.State.{Package, PackageState, RollbackOrigin, verifyingRollsBack, activatedRollsBack, readyCleansUp, activatedCleansUp, rolledBackCleansUp, Phase, idle, ready, processing, activating, verifying, activated, rollingBack, rolledBack, cleaningUp, phaseNumber, isIdle, isProcessing, Entry, State, state, Store, actions}
 use Rattle.model.specs.Calls.{Call, callNumber}
 use Rattle.model.specs.Permissions.{permissions, allowed}
-use Rattle.model.specs.Areas.{kept, isBeingProcessed, isProcessed}
+use Rattle.model.specs.Areas.{remaining, isBeingProcessed, isProcessed}
 use Rattle.model.specs.Tables.{staged}
 use Rattle.model.specs.Sound.{listFits}
 use Rattle.model.specs.Step.{activatingPhase, rollbackPhase, cleanedUp, reported}
@@ -106,7 +106,7 @@ module _ (s : State) (store : Store) (ok : Sound s store) where
         turn = ok .turn;
         entries = ok .entries;
         listed = ok .listed;
-        kept = kept-outside (s .phase) (s .session) (s .transfers .packages) phase (s .session) (s .transfers .packages) (s .work) (rests-not-processing (s .phase) r) (rests-not-processing phase r′) (ok .kept);
+        keptValues = kept-outside (s .phase) (s .session) (s .transfers .packages) phase (s .session) (s .transfers .packages) (s .work) (rests-not-processing (s .phase) r) (rests-not-processing phase r′) (ok .keptValues);
         processing = ok .processing ∙ ap one (rests-not-processing (s .phase) r ∙ sym (rests-not-processing phase r′));
         fits = fits-moved (s .phase) phase (s .session .listed) r r′ (ok .fits);
       }
@@ -138,7 +138,7 @@ module _ (s : State) (store : Store) (ok : Sound s store) where
         turn = unfold passInTurn in refl;
         entries = sym (none-cleaned ps);
         listed = tied-cleaned ps;
-        kept = kept-outside (s .phase) (s .session) ps idle (record { beginning = table; listed = [] }) (kept keeps ps) (s .work) outside refl (ok .kept);
+        keptValues = kept-outside (s .phase) (s .session) ps idle (record { beginning = table; listed = [] }) (remaining keeps ps) (s .work) outside refl (ok .keptValues);
         processing = count-kept isBeingProcessed keeps ps (keeps-each isBeingProcessed keeps being ps) ∙ ok .processing ∙ ap one outside;
         fits = unfold listFits in refl;
       }

@@ -9,7 +9,7 @@ use lib.ListN.{length, length-append}
 use Rattle.clusters.specs.Table.{tableWithin}
 use Rattle.clusters.specs.Action.{passInTurn, actionsWithin}
 use Rattle.model.specs.State.{Package, Phase, isProcessing, Session, Work, State, state, Store, actions}
-use Rattle.model.specs.Areas.{declared, free, find, kept, newPackage, changed, isBeingProcessed, isProcessed, countIn}
+use Rattle.model.specs.Areas.{declared, free, find, remaining, newPackage, changed, isBeingProcessed, isProcessed, countIn}
 use Rattle.model.specs.Sound.{packagesMost, idMost, packagesRise, processedAsListed, keptSound, listFits}
 use Rattle.model.specs.Step.{withPackages}
 use Rattle.model.proofs.soundness.SoundFacts.{Sound}
@@ -47,7 +47,7 @@ module _ (s : State) (store : Store) (ok : Sound s store) where
         turn = ok .turn;
         entries = ok .entries ∙ sym same;
         listed = tied;
-        kept = kept-sized (s .phase) (s .session) (s .transfers .packages) ps (s .work) (processing-size 0 next ps rise ∙ size ∙ sym (processing-size 0 (s .transfers .next) (s .transfers .packages) (ok .rise))) (ok .kept);
+        keptValues = kept-sized (s .phase) (s .session) (s .transfers .packages) ps (s .work) (processing-size 0 next ps rise ∙ size ∙ sym (processing-size 0 (s .transfers .next) (s .transfers .packages) (ok .rise))) (ok .keptValues);
         processing = being ∙ ok .processing;
         fits = ok .fits;
       }
@@ -74,10 +74,10 @@ module _ (s : State) (store : Store) (ok : Sound s store) where
   -- packages are kept by a choice that keeps all Processed ones and the one that is processing
   pub kept-by-sound : (keeps : Package → Bool) (store′ : Store) → length store′ ≡ length store
       → keepsAll isProcessed keeps (s .transfers .packages) ≡ true → keepsAll isBeingProcessed keeps (s .transfers .packages) ≡ true
-      → Sound (state (s .phase) (withPackages (kept keeps (s .transfers .packages)) (s .transfers)) (s .session) (s .work)) store′
+      → Sound (state (s .phase) (withPackages (remaining keeps (s .transfers .packages)) (s .transfers)) (s .session) (s .work)) store′
   kept-by-sound keeps store′ long keeps-processed keeps-being =
       let ps = s .transfers .packages in
-      others-kept (kept keeps ps) (s .transfers .next) store′ long
+      others-kept (remaining keeps ps) (s .transfers .next) store′ long
       (omega (arith, declared-kept keeps ps, ok .fit))
       (omega (arith, length-kept keeps ps, ok .few))
       (ok .begun) (ok .ids)
@@ -117,7 +117,7 @@ module _ (s : State) (store : Store) (ok : Sound s store) where
         → countIn isBeingProcessed (changed id change (s .transfers .packages)) ≡ one (isProcessing phase)
         → listFits phase (session .listed) ≡ true
         → Sound (state phase (withPackages (changed id change (s .transfers .packages)) (s .transfers)) session work) store
-    changed-sound phase session work beginning within turn entries listed kept processing fits =
+    changed-sound phase session work beginning within turn entries listed remaining processing fits =
         let ps = s .transfers .packages in
         record {
           room = ok .room;
@@ -131,7 +131,7 @@ module _ (s : State) (store : Store) (ok : Sound s store) where
           turn = turn;
           entries = entries;
           listed = listed;
-          kept = kept;
+          keptValues = remaining;
           processing = processing;
           fits = fits;
         }

@@ -13,7 +13,7 @@ use lib.Seq.{length-take-le, take-at, drop-at, take-take, take-add, drop-drop, t
 use borrow.Author.Tests.{eqb-true, eq-eqb}
 use Rattle.base.proofs.Tests.{bool-cases, none-some}
 use Rattle.model.specs.State.{Package, State, Store}
-use Rattle.model.specs.Areas.{declared, free, find, areaOf, overwritten, blockPut, kept, keptAreas, deleted, newPackage, changed}
+use Rattle.model.specs.Areas.{declared, free, find, areaOf, overwritten, blockPut, remaining, remainingAreas, deleted, newPackage, changed}
 use Rattle.model.specs.Sound.{sound}
 use Rattle.model.proofs.soundness.SoundFacts.{sound-says}
 use Rattle.model.proofs.store.StoreLength.{rest-fits, first-fits, length-kept-areas}
@@ -142,13 +142,13 @@ area-changed id change same-id same-size other (q ∷ ps) store =
 module _ (keeps : Package → Bool) where
   kept-area : (id : ℕ) (ps : List Package) (p : Package) (store : Store) (rest : List ℕ) → find id ps ≡ some p → keeps p ≡ true
       → declared ps ≤ length store
-      → areaOf id (kept keeps ps) (keptAreas keeps ps store ++ rest) ≡ areaOf id ps store
-  unfolding find areaOf kept keptAreas
+      → areaOf id (remaining keeps ps) (remainingAreas keeps ps store ++ rest) ≡ areaOf id ps store
+  unfolding find areaOf remaining remainingAreas
   kept-area id [] p store rest e h fits = none-some e
   kept-area id (q ∷ ps) p store rest e h fits =
       let first = first-fits q ps store fits in
-      let later = keptAreas keeps ps (drop (q .size) store) in
-      let ih : find id ps ≡ some p → areaOf id (kept keeps ps) (later ++ rest) ≡ areaOf id ps (drop (q .size) store) =
+      let later = remainingAreas keeps ps (drop (q .size) store) in
+      let ih : find id ps ≡ some p → areaOf id (remaining keeps ps) (later ++ rest) ≡ areaOf id ps (drop (q .size) store) =
       λ y. kept-area id ps p (drop (q .size) store) rest y h (rest-fits q ps store fits) in
       bool-cases (eqb id (q .id))
       (λ b. let same : q ≡ p = cc (rw b at e) in
@@ -161,16 +161,16 @@ module _ (keeps : Package → Bool) where
   -- the areas of the packages that are kept stay
   pub deleted-area : (id : ℕ) (ps : List Package) (p : Package) (store : Store) → find id ps ≡ some p → keeps p ≡ true
       → declared ps ≤ length store
-      → areaOf id (kept keeps ps) (deleted keeps ps store) ≡ areaOf id ps store
+      → areaOf id (remaining keeps ps) (deleted keeps ps store) ≡ areaOf id ps store
   unfolding deleted
   deleted-area id ps p store e h fits = kept-area id ps p store _ e h fits
 
   -- behind the last area stand 0 up to the old end, and then the rest as it was
   pub deleted-end : (ps : List Package) (store : Store) → declared ps ≤ length store
-      → drop (declared (kept keeps ps)) (deleted keeps ps store)
-      ≡ replicate (declared ps - declared (kept keeps ps)) 0 ++ drop (declared ps) store
+      → drop (declared (remaining keeps ps)) (deleted keeps ps store)
+      ≡ replicate (declared ps - declared (remaining keeps ps)) 0 ++ drop (declared ps) store
   unfolding deleted
-  deleted-end ps store fits = drop-at (keptAreas keeps ps store) _ (declared (kept keeps ps)) (length-kept-areas keeps ps store fits)
+  deleted-end ps store fits = drop-at (remainingAreas keeps ps store) _ (declared (remaining keeps ps)) (length-kept-areas keeps ps store fits)
 
 -- ---- a package starts
 

@@ -13,7 +13,7 @@ use lib.Seq.{take-at, drop-at}
 use borrow.Author.Tests.{eqb-true}
 use Rattle.base.proofs.Tests.{bool-cases, none-some}
 use Rattle.model.specs.State.{PackageState, Package, Store}
-use Rattle.model.specs.Areas.{declared, free, find, areaOf, kept, keptAreas, deleted, newPackage, inState, changed}
+use Rattle.model.specs.Areas.{declared, free, find, areaOf, remaining, remainingAreas, deleted, newPackage, inState, changed}
 use Rattle.model.proofs.soundness.Packages.{found-id}
 
 abbrev pub zeros : ℕ → List ℕ
@@ -133,8 +133,8 @@ holds-state blocks id then ps store k =
 -- ---- packages are deleted
 
 areas-kept : (blocks : ℕ → List ℕ) (keeps : Package → Bool) (ps : List Package) (rest : List ℕ) → AllFilled blocks ps
-    → keptAreas keeps ps (areasBytes blocks ps ++ rest) ≡ areasBytes blocks (kept keeps ps)
-unfolding keptAreas kept
+    → remainingAreas keeps ps (areasBytes blocks ps ++ rest) ≡ areasBytes blocks (remaining keeps ps)
+unfolding remainingAreas remaining
 areas-kept blocks keeps [] rest f = unfold areasBytes in refl
 areas-kept blocks keeps (p ∷ ps) rest f =
     let ih = areas-kept blocks keeps ps rest (f .1) in
@@ -142,28 +142,28 @@ areas-kept blocks keeps (p ∷ ps) rest f =
     (bool-cases (keeps p) (λ b. rw b (unfold areasBytes in refl)) λ b. rw b)
 
 filled-kept : (blocks : ℕ → List ℕ) (keeps : Package → Bool) (ps : List Package) → AllFilled blocks ps
-    → AllFilled blocks (kept keeps ps)
-unfolding kept
+    → AllFilled blocks (remaining keeps ps)
+unfolding remaining
 filled-kept blocks keeps [] f = tt
 filled-kept blocks keeps (p ∷ ps) f =
     let ih = filled-kept blocks keeps ps (f .1) in
     bool-cases (keeps p) (λ b. rw b (f .0, ih)) λ b. rw b ih
 
 pub holds-deleted : (blocks : ℕ → List ℕ) (keeps : Package → Bool) (ps : List Package) (store : Store) → Holds blocks ps store
-    → Holds blocks (kept keeps ps) (deleted keeps ps store)
+    → Holds blocks (remaining keeps ps) (deleted keeps ps store)
 unfolding deleted
 holds-deleted blocks keeps ps store k =
-    let freed = declared ps - declared (kept keeps ps) in
+    let freed = declared ps - declared (remaining keeps ps) in
     let end : drop (declared ps) store ≡ zeros (k .behind) =
     ap (drop (declared ps)) (k .bytes)
     ∙ drop-at (areasBytes blocks ps) (zeros (k .behind)) (declared ps) (length-areas blocks ps (k .filled)) in
-    let front : keptAreas keeps ps store ≡ areasBytes blocks (kept keeps ps) =
-    ap (keptAreas keeps ps) (k .bytes) ∙ areas-kept blocks keeps ps (zeros (k .behind)) (k .filled) in
+    let front : remainingAreas keeps ps store ≡ areasBytes blocks (remaining keeps ps) =
+    ap (remainingAreas keeps ps) (k .bytes) ∙ areas-kept blocks keeps ps (zeros (k .behind)) (k .filled) in
     record {
       filled = filled-kept blocks keeps ps (k .filled);
       behind = freed + k .behind;
       bytes = ap₂ (λ (x y : List ℕ). x ++ (zeros freed ++ y)) front end
-          ∙ ap (λ (l : List ℕ). areasBytes blocks (kept keeps ps) ++ l) (replicate-append-replicate freed (k .behind) 0);
+          ∙ ap (λ (l : List ℕ). areasBytes blocks (remaining keeps ps) ++ l) (replicate-append-replicate freed (k .behind) 0);
     }
 
 -- ---- what the store holds, read

@@ -13,7 +13,7 @@ use Rattle.clusters.specs.Table.{Table}
 use Rattle.model.specs.State.{Phase, idle, ready, processing, activating, verifying, activated, rollingBack, rolledBack, cleaningUp, readyCleansUp, activatedCleansUp, rolledBackCleansUp, Work, State, state, Store}
 use Rattle.model.specs.Calls.{Call, done, transferStart, transferData, transferExit, deleteTransfer, process, work, cancel, revert, activate, rollback, finish, report}
 use Rattle.model.specs.Areas.{packageOf, areaOf, isProcessed, processingId}
-use Rattle.model.specs.Step.{Outcome, outcome, movesTo, noted, workOn, taken, sumCompared, worked, cleanedUp, reported, ownRefusals, refusals, act, settled, step}
+use Rattle.model.specs.Step.{Outcome, outcome, movesTo, withCancelNoted, workOn, taken, sumCompared, worked, cleanedUp, reported, ownRefusals, refusals, act, settled, step}
 use Rattle.model.proofs.soundness.SoundFacts.{Sound, sound-says}
 use Rattle.model.proofs.soundness.Packages.{known-is}
 use Rattle.model.proofs.store.StoreLength.{length-block-put, length-deleted}
@@ -30,7 +30,7 @@ module _ (s : State) (store : Store) where
       let after = workOn w n (areaOf (processingId (s .transfers .packages)) (s .transfers .packages) store) in
       cond-cases AsLong (w .cancelNoted) _ _ (λ b. refl) λ b.
       cond-cases AsLong (ltb (w .done + taken w n) (w .count)) _ _ (λ l. refl) λ l.
-      cond-cases AsLong (eqb (sumNumber (after .sums)) (after .sum)) _ _ (λ e. refl) λ e. refl
+      cond-cases AsLong (eqb (sumNumber (after .runningSums)) (after .sum)) _ _ (λ e. refl) λ e. refl
 
   module _ (ok : Sound s store) where
     cleaned-long : (table : Table) → AsLong (cleanedUp s store table)
@@ -74,7 +74,7 @@ module _ (s : State) (store : Store) where
     by-call (cancel id) h = go (s .work)
       where
         go : (o : Option Work)
-            → AsLong (elim o [ none ↦ movesTo s store (s .phase) done | some w ↦ outcome done (state (s .phase) (s .transfers) (s .session) (some (noted w))) store ])
+            → AsLong (elim o [ none ↦ movesTo s store (s .phase) done | some w ↦ outcome done (state (s .phase) (s .transfers) (s .session) (some (withCancelNoted w))) store ])
         go none = refl
         go (some w) = refl
     by-call (transferStart size) h = refl

@@ -11,7 +11,7 @@ use lib.ListN.{length, drop, length-append, length-take, length-drop, length-rep
 use lib.Seq.{length-take-le}
 use Rattle.base.proofs.Tests.{bool-cases, none-some}
 use Rattle.model.specs.State.{Package, Store}
-use Rattle.model.specs.Areas.{declared, find, areaOf, overwritten, blockPut, kept, keptAreas, deleted}
+use Rattle.model.specs.Areas.{declared, find, areaOf, overwritten, blockPut, remaining, remainingAreas, deleted}
 use Rattle.model.proofs.soundness.Packages.{declared-kept}
 
 -- the areas behind the first fit what is left of the store
@@ -46,8 +46,8 @@ length-block-put id block (q ∷ ps) p store e l h =
 
 module _ (keeps : Package → Bool) where
   pub length-kept-areas : (ps : List Package) (store : Store) → declared ps ≤ length store
-      → length (keptAreas keeps ps store) ≡ declared (kept keeps ps)
-  unfolding declared kept keptAreas
+      → length (remainingAreas keeps ps store) ≡ declared (remaining keeps ps)
+  unfolding declared remaining remainingAreas
   length-kept-areas [] store h = refl
   length-kept-areas (q ∷ ps) store h =
       let ih = length-kept-areas ps (drop (q .size) store) (rest-fits q ps store h) in

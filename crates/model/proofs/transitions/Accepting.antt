@@ -47,7 +47,7 @@ module _ (t : Transfers) (session : Session) (store : Store) where
       let P : Outcome → Type 0 = Accepted (state processing t session (some w)) store (work n) in
       cond-cases P (w .cancelNoted) _ _ (λ c. leaves w n (by-cancel c)) λ c.
       cond-cases P (ltb (w .done + taken w n) (w .count)) _ _ (λ l. works-on w n c (ltb-true _ _ l)) λ l.
-      cond-cases P (eqb (sumNumber (after w n .sums)) (w .sum)) _ _ (λ e. is-processed w n c e) λ e. leaves w n (by-sum c e)
+      cond-cases P (eqb (sumNumber (after w n .runningSums)) (w .sum)) _ _ (λ e. is-processed w n c e) λ e. leaves w n (by-sum c e)
 
   work-is : (k : Option Work) (n : ℕ) → keptSound processing session (t .packages) k ≡ true
       → Accepted (state processing t session k) store (work n) (act (state processing t session k) store (work n))
@@ -225,5 +225,5 @@ accepted-by t session k phase store (report good) h a own = report-is t session 
 pub accepted-is : (s : State) (store : Store) (call : Call) → firstRefusal (refusals s store call) ≡ none
     → Accepted s store call (act s store call)
 accepted-is s store call e =
-    accepted-by (s .transfers) (s .session) (s .work) (s .phase) store call (sound-says s store (accepted-sound s store call e) .kept)
+    accepted-by (s .transfers) (s .session) (s .work) (s .phase) store call (sound-says s store (accepted-sound s store call e) .keptValues)
     (accepted-allowed s store call e) (accepted-own s store call e)

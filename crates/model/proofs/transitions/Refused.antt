@@ -2,6 +2,7 @@
 -- and store. Assumes nothing.
 use mathlib.Core.Path.{_≡_, refl, sym, ap, _∙_}
 use mathlib.Core.List.{List, [], _∷_}
+use mathlib.Core.Logic.{_↔_}
 use mathlib.Core.Option.{Option, none, some}
 use Prim.Native.Nat.{ℕ}
 use native.Mathlib.Omega.{arith}
@@ -52,6 +53,17 @@ pub refused-changes-nothing : (s : State) (store : Store) (call : Call) (number 
 refused-changes-nothing s store call number =
     step-cases (λ o. o .reply ≡ refused number → (o .state ≡ s) × (o .store ≡ store)) s store call (λ n r e. (refl, refl))
     λ a e. absurd (not-refused number (accepted-is s store call a) e)
+
+-- "Checked in this order": a call is refused with a number exactly when that is the number of the first refusal that applies
+pub refused-by-the-first : (s : State) (store : Store) (call : Call) (number : ℕ)
+    → (step s store call .reply ≡ refused number) ↔ (firstRefusal (refusals s store call) ≡ some number)
+unfolding step
+refused-by-the-first s store call number = (
+  step-cases (λ o. o .reply ≡ refused number → firstRefusal (refusals s store call) ≡ some number) s store call
+      (λ n r e. let same : n ≡ number = cc in r ∙ ap some same)
+      λ a e. absurd (not-refused number (accepted-is s store call a) e),
+  λ e. ap (λ (r : Option ℕ). settled s store r (act s store call) .reply) e,
+)
 
 -- ---- a list of calls
 

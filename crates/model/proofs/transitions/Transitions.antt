@@ -12,13 +12,13 @@ use Rattle.clusters.specs.Table.{Table, needsMet}
 use Rattle.clusters.specs.Action.{passes}
 use Rattle.manifest.specs.Package.{Manifest, inconsistent, consistent}
 use Rattle.model.specs.State.{transferred, beingProcessed, Package, RollbackOrigin, verifyingRollsBack, activatedRollsBack, CleanUpOrigin, readyCleansUp, activatedCleansUp, rolledBackCleansUp, Phase, idle, ready, processing, activating, verifying, activated, rollingBack, rolledBack, cleaningUp, isIdle, isProcessing, Transfers, Session, Work, State, state, Store, actions}
-use Rattle.model.specs.State as st
+use Rattle.model.specs.State as states
 use Rattle.model.specs.Calls.{Call, transferStart, transferData, transferExit, deleteTransfer, process, work, cancel, revert, activate, rollback, finish, report, Answer, givenId, done, working, processed, cancelled, preActivationFailed, missingDependencies, verificationFailed, notAbleToRollback, notAbleToRevert, cleaningFailed}
 use Rattle.model.specs.Calls as calls
-use Rattle.model.specs.Areas.{free, find, areaOf, blockPut, kept, deleted, newPackage, inState, withBlock, changed, isTransferring, isTransferred, isBeingProcessed, isProcessed, processingId}
+use Rattle.model.specs.Areas.{free, find, areaOf, blockPut, remaining, deleted, newPackage, inState, withBlock, changed, isTransferring, isTransferred, isBeingProcessed, isProcessed, processingId}
 use Rattle.model.specs.Tables.{staged}
 use Rattle.model.specs.Sound.{packagesMost, idMost}
-use Rattle.model.specs.Step.{Outcome, outcome, areaRead, withPackages, workBegun, taken, workOn, noted, rollbackPhase, changesPackages, endsProcessing, listedWith, cleanedUp}
+use Rattle.model.specs.Step.{Outcome, outcome, areaRead, withPackages, workBegun, taken, workOn, withCancelNoted, rollbackPhase, changesPackages, endsProcessing, listedWith, cleanedUp}
 
 -- where Process may begin
 pub data AtRest : Phase → Type 0 where
@@ -54,7 +54,7 @@ pub data Ends (session : Session) : CleanUpOrigin → Table → Type 0 where
 pub data Leaves (s : State) (store : Store) (w : Work) (n : ℕ) : Answer → Type 0 where
   by-cancel : w .cancelNoted ≡ true → Leaves s store w n cancelled
   by-sum : w .cancelNoted ≡ false
-      → eqb (sumNumber (workOn w n (areaOf (processingId (s .transfers .packages)) (s .transfers .packages) store) .sums)) (w .sum) ≡ false
+      → eqb (sumNumber (workOn w n (areaOf (processingId (s .transfers .packages)) (s .transfers .packages) store) .runningSums)) (w .sum) ≡ false
       → Leaves s store w n calls.inconsistent
 
 pub data Accepted : State → Store → Call → Outcome → Type 0 where
@@ -79,7 +79,7 @@ pub data Accepted : State → Store → Call → Outcome → Type 0 where
       → isBeingProcessed (p .state) ≡ false → isProcessed (p .state) ≡ false
       → Accepted s store (deleteTransfer id)
       (changesPackages s store
-      (kept (λ q. not (eqb id (q .id))) (s .transfers .packages))
+      (remaining (λ q. not (eqb id (q .id))) (s .transfers .packages))
       (deleted (λ q. not (eqb id (q .id))) (s .transfers .packages) store))
   processes : {s : State} {store : Store} (id : ℕ) (p : Package) (m : Manifest) → AtRest (s .phase)
       → find id (s .transfers .packages) ≡ some p
@@ -102,11 +102,11 @@ pub data Accepted : State → Store → Call → Outcome → Type 0 where
       → Accepted (state processing t session (some w)) store (work n)
       (endsProcessing (state processing t session (some w)) store answer transferred (session .listed))
   is-processed : {t : Transfers} {session : Session} {store : Store} (w : Work) (n : ℕ) → w .cancelNoted ≡ false
-      → eqb (sumNumber (workOn w n (areaOf (processingId (t .packages)) (t .packages) store) .sums)) (w .sum) ≡ true
+      → eqb (sumNumber (workOn w n (areaOf (processingId (t .packages)) (t .packages) store) .runningSums)) (w .sum) ≡ true
       → Accepted (state processing t session (some w)) store (work n)
-      (endsProcessing (state processing t session (some w)) store processed st.processed (listedWith (state processing t session (some w)) store w))
+      (endsProcessing (state processing t session (some w)) store processed states.processed (listedWith (state processing t session (some w)) store w))
   cancels : {t : Transfers} {session : Session} {store : Store} (w : Work) (id : ℕ) → id ≡ processingId (t .packages)
-      → Accepted (state processing t session (some w)) store (cancel id) (outcome done (state processing t session (some (noted w))) store)
+      → Accepted (state processing t session (some w)) store (cancel id) (outcome done (state processing t session (some (withCancelNoted w))) store)
   moves : {phase phase′ : Phase} {t : Transfers} {session : Session} {k : Option Work} {store : Store} {call : Call} {answer : Answer}
       → Moves (needsMet (staged session)) call answer phase phase′
       → Accepted (state phase t session k) store call (outcome answer (state phase′ t session k) store)

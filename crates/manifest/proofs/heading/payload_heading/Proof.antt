@@ -1,7 +1,6 @@
 -- `manifest::heading::payload_heading` meets its contract, one `let .. else` after the other. Assumes nothing.
 use borrow.Author.Needs.{needs}
 use Rattle.text.proofs.ThenLaws.{chain}
-use Rattle.manifest.specs.Package.{payloadHeading}
 use Rattle.manifest.proofs.ThenLaws.{in-fields}
 use Rattle.manifest.proofs.heading.payload_heading.Statement.{statement}
 use Rattle.manifest.proofs.heading.payload_heading.Tie as tie
@@ -19,7 +18,6 @@ enum-told : tie.Need-enum-told
 enum-told c = search needs
 
 returns : tie.Need-returns
-unfolding payloadHeading
 returns c = search (chain, in-fields) depth 9
 
 cell-at-requires-2 : tie.Need-cell-at-requires-2
@@ -35,14 +33,12 @@ enum-told-2 : tie.Need-enum-told-2
 enum-told-2 c = search needs
 
 returns-2 : tie.Need-returns-2
-unfolding payloadHeading
 returns-2 c = search (chain, in-fields) depth 9
 
 heading-of-requires : tie.Need-heading-of-requires
 heading-of-requires c κs = search needs
 
 returns-3 : tie.Need-returns-3
-unfolding payloadHeading
 returns-3 c = search (chain, in-fields) depth 9
 
 pub payload-heading-spec : {M : Type 1} → statement M

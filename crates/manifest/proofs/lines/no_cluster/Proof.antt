@@ -1,6 +1,5 @@
 -- `manifest::lines::no_cluster` meets its contract: one field after the other. Assumes nothing.
 use borrow.Author.Needs.{needs}
-use Rattle.manifest.specs.Package.{noCluster}
 use Rattle.base.proofs.Ladder.{told-ladder}
 use Rattle.manifest.proofs.lines.no_cluster.Statement.{statement}
 use Rattle.manifest.proofs.lines.no_cluster.Tie as tie
@@ -9,14 +8,12 @@ cell-is-empty-requires : tie.Need-cell-is-empty-requires
 cell-is-empty-requires c κs = search needs
 
 returns : tie.Need-returns
-unfolding noCluster
 returns c = search told-ladder depth 9
 
 cell-is-empty-requires-2 : tie.Need-cell-is-empty-requires-2
 cell-is-empty-requires-2 c κs = search needs
 
 returns-2 : tie.Need-returns-2
-unfolding noCluster
 returns-2 c = search told-ladder depth 9
 
 pub no-cluster-spec : {M : Type 1} → statement M

@@ -1,6 +1,5 @@
 -- `manifest::lines::no_payload` meets its contract: one field after the other. Assumes nothing.
 use borrow.Author.Needs.{needs}
-use Rattle.manifest.specs.Package.{noPayload}
 use Rattle.base.proofs.Ladder.{told-ladder}
 use Rattle.manifest.proofs.lines.no_payload.Statement.{statement}
 use Rattle.manifest.proofs.lines.no_payload.Tie as tie
@@ -9,21 +8,18 @@ cell-is-empty-requires : tie.Need-cell-is-empty-requires
 cell-is-empty-requires c κs = search needs
 
 returns : tie.Need-returns
-unfolding noPayload
 returns c = search told-ladder depth 9
 
 cell-is-empty-requires-2 : tie.Need-cell-is-empty-requires-2
 cell-is-empty-requires-2 c κs = search needs
 
 returns-2 : tie.Need-returns-2
-unfolding noPayload
 returns-2 c = search told-ladder depth 9
 
 cell-is-empty-requires-3 : tie.Need-cell-is-empty-requires-3
 cell-is-empty-requires-3 c κs = search needs
 
 returns-3 : tie.Need-returns-3
-unfolding noPayload
 returns-3 c = search told-ladder depth 9
 
 pub no-payload-spec : {M : Type 1} → statement M

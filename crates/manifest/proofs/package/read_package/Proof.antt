@@ -1,62 +1,17 @@
--- `manifest::package::read_package` meets its contract, one `let .. else` after the other. Assumes nothing.
+-- `manifest::package::read_package` meets its contract: the number of the exact answer is that of what is read. Assumes nothing.
+use mathlib.Core.Path.{_≡_, ap, _∙_}
+use Rattle.manifest.specs.declared.package.PackageRead.{PackageRead}
+use Rattle.manifest.specs.Answer.{answerNumber}
+use Rattle.manifest.proofs.Payload.{answer-number}
 use borrow.Author.Needs.{needs}
-use Rattle.manifest.specs.Package.{readPackage}
-use Rattle.manifest.proofs.PackageLaws.{turns}
 use Rattle.manifest.proofs.package.read_package.Statement.{statement}
 use Rattle.manifest.proofs.package.read_package.Tie as tie
 
-line-at-requires : tie.Need-line-at-requires
-line-at-requires c κs = search needs
-
-enum-known-first : tie.Need-enum-known-first
-enum-known-first c = search needs
-
-enum-told : tie.Need-enum-told
-enum-told c = search needs
-
-no-package-requires : tie.Need-no-package-requires
-no-package-requires c κs = search needs
+package-at-start-requires : tie.Need-package-at-start-requires
+package-at-start-requires c κs = search needs
 
 returns : tie.Need-returns
-unfolding readPackage
-returns c = search turns depth 9
-
-package-columns-requires : tie.Need-package-columns-requires
-package-columns-requires c κs = search needs
-
-enum-known-columns : tie.Need-enum-known-columns
-enum-known-columns c = search needs
-
-enum-told-2 : tie.Need-enum-told-2
-enum-told-2 c = search needs
-
-no-package-requires-2 : tie.Need-no-package-requires-2
-no-package-requires-2 c κs = search needs
-
-returns-2 : tie.Need-returns-2
-unfolding readPackage
-returns-2 c = search turns depth 9
-
-package-from-requires : tie.Need-package-from-requires
-package-from-requires c κs = search needs
-
-returns-3 : tie.Need-returns-3
-unfolding readPackage
-returns-3 c = search turns depth 9
+returns c = (ap (λ (r : PackageRead). answerNumber (r .answer)) (c .package-at-start .ensures) ∙ answer-number _, c .package-at-start .ensures)
 
 pub read-package-spec : {M : Type 1} → statement M
-read-package-spec =
-    tie.close
-    (tie.spec
-    line-at-requires
-    enum-known-first
-    enum-told
-    no-package-requires
-    returns
-    package-columns-requires
-    enum-known-columns
-    enum-told-2
-    no-package-requires-2
-    returns-2
-    package-from-requires
-    returns-3)
+read-package-spec = tie.close (tie.spec package-at-start-requires returns)

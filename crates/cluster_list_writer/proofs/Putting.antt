@@ -1,0 +1,177 @@
+-- A text that is being put into a buffer, part by part: what is left of it, and where it goes. Assumes nothing.
+use Prim.Native.Nat.{ℕ, _+_, _≤_, _<_}
+use mathlib.Core.Path.{_≡_, refl, sym, ap, _∙_}
+use mathlib.Core.List.{List, [], _∷_, _++_}
+use native.Mathlib.Omega.{arith}
+use native.Mathlib.Nat.{add-zero}
+use native.Mathlib.Numerals.{add-one}
+use lib.ListN.{length, drop, getD, length-append, set, length-set, drop-of-length-le}
+use lib.Seq.{sets, drop-cons}
+use Rattle.base.specs.Quoted.{comma, LF}
+use Rattle.text.specs.declared.version.Version.{Version}
+use Rattle.text.specs.Digits.{digits}
+use Rattle.text.specs.Version.{versionText}
+use Rattle.text.specs.Put.{Put}
+use Rattle.text.proofs.PutLaws.{sets-append, put-length, put-nothing, put-byte, put-then, put-cons, put-last, room-first, room-next}
+use Rattle.rows.specs.Line.{lineText}
+use Rattle.clusters.specs.declared.cluster.Need.{Need}
+use Rattle.clusters.specs.declared.cluster.Cluster.{Cluster as ClusterStruct}
+use Rattle.clusters.specs.View.{viewCluster}
+use Rattle.clusters.specs.Table.{Table}
+use Rattle.cluster_list.specs.Write.{namesLine, needCells, needLineText, needLinesText, clusterLines, clustersText, writeList}
+use Rattle.cluster_list_writer.specs.Pair.{pairText}
+use Rattle.cluster_list_writer.proofs.Texts.{pair-length, need-line-parts, cluster-parts}
+
+-- the buffer was `old` and is `new`; with `rest` put at `at` the whole text stands from `from` on
+pub record Putting (old : List ℕ) (from : ℕ) (text : List ℕ) (new : List ℕ) (at : ℕ) (rest : List ℕ) : Type 0 where
+  pub ends : at + length rest ≡ from + length text
+  pub bytes : sets new at rest ≡ sets old from text
+  pub long : length new ≡ length old
+
+module _ (old : List ℕ) (from : ℕ) (text : List ℕ) where
+  pub putting-begins : Putting old from text old from text
+  putting-begins = record { ends = refl; bytes = refl; long = refl }
+
+  module _ (new : List ℕ) (at : ℕ) (rest : List ℕ) (p : Putting old from text new at rest) where
+    pub putting-done : rest ≡ [] → Put old from text at new
+    putting-done e = record { behind = sym (add-zero at) ∙ rw e at (p .ends); bytes = rw e at (p .bytes) }
+
+    module _ (xs ys : List ℕ) (e : rest ≡ xs ++ ys) where
+      -- the room for the next part
+      pub putting-room : from + length text ≤ length old → at + length xs ≤ length new
+      putting-room o = omega (arith, p .ends, p .long, ap length e, length-append xs ys)
+
+      -- the next part is put
+      pub putting-on : (newer : List ℕ) (next : ℕ) → Put new at xs next newer → Putting old from text newer next ys
+      putting-on newer next f = record {
+        ends = omega (arith, p .ends, f .behind, ap length e, length-append xs ys);
+        bytes = rw (f .bytes, f .behind, ← sets-append xs ys new at, ← e) (p .bytes);
+        long = put-length new at xs newer next f ∙ p .long;
+      }
+
+  -- byte by byte
+  module _ (new : List ℕ) (i : ℕ) where
+    pub bytes-on : i < length text → Putting old from text new (from + i) (drop i text)
+        → Putting old from text (set new (from + i) (getD text i 0)) (from + (i + 1)) (drop (i + 1) text)
+    bytes-on h p =
+        let e : drop i text ≡ (getD text i 0 ∷ []) ++ drop (i + 1) text = drop-cons text i 0 h ∙ rw add-one in
+        let n : from + i + 1 ≡ from + (i + 1) = omega arith in
+        rw n at (putting-on new (from + i) (drop i text) p (getD text i 0 ∷ []) (drop (i + 1) text) e _ _ (put-byte new (from + i) (getD text i 0)))
+
+    pub bytes-done : length text ≤ i → Putting old from text new (from + i) (drop i text) → Put old from text (from + i) new
+    bytes-done h p = putting-done new (from + i) (drop i text) p (drop-of-length-le text h)
+
+  pub bytes-begin : Putting old from text old (from + 0) (drop 0 text)
+  bytes-begin = rw add-zero putting-begins
+
+-- ---- a part number and a version
+
+module _ (l : List ℕ) (at part : ℕ) (version : Version) (b : ℕ) (o : at + length (pairText part version b) ≤ length l) where
+  pub room-part : at + length (digits part) ≤ length l
+  room-part = omega (arith, pair-length part version b)
+
+  module _ (m : List ℕ) (p : ℕ) (f : Put l at (digits part) p m) where
+    pub room-comma : p < length m
+    room-comma = omega (arith, pair-length part version b, f .behind, put-length l at (digits part) m p f)
+
+    pub room-version : p + 1 + length (versionText version) ≤ length (set m p comma)
+    room-version = simp length-set (omega (arith, pair-length part version b, f .behind, put-length l at (digits part) m p f))
+
+    module _ (k : List ℕ) (q : ℕ) (g : Put (set m p comma) (p + 1) (versionText version) q k) where
+      pub room-behind : q < length k
+      room-behind =
+          omega (
+            arith,
+            pair-length part version b,
+            f .behind,
+            put-length l at (digits part) m p f,
+            g .behind,
+            put-length (set m p comma) (p + 1) (versionText version) k q g,
+            length-set m p comma,
+          )
+
+      pub pair-put : Put l at (pairText part version b) (q + 1) (set k q b)
+      unfolding pairText
+      pair-put =
+          put-then l at (digits part) (comma ∷ (versionText version ++ (b ∷ []))) m (set k q b) p (q + 1) f
+          (put-cons m p comma (versionText version ++ (b ∷ [])) (set k q b) (q + 1) (put-last (set m p comma) (p + 1) (versionText version) k q b g))
+
+-- ---- two bytes
+
+module _ (l : List ℕ) (at a b : ℕ) where
+  after-two : (text rest j : List ℕ) (r : ℕ) → text ≡ a ∷ (b ∷ rest) → Put (set (set l at a) (at + 1) b) (at + 2) rest r j → Put l at text r j
+  after-two text rest j r e g =
+      let p : at + 2 ≡ at + 1 + 1 = omega arith in
+      rw e (put-cons l at a (b ∷ rest) j r (put-cons (set l at a) (at + 1) b rest j r (rw p at g)))
+
+-- the line of a need: its two empty fields, and then the filled ones
+module _ (l : List ℕ) (at : ℕ) (n : Need) (o : at + length (needLineText n) ≤ length l) where
+  need-line-long : length (needLineText n) ≡ 2 + length (lineText (needCells (n ∷ [])))
+  need-line-long = ap length (need-line-parts n) ∙ omega arith
+
+  pub room-first-comma : at < length l
+  room-first-comma = omega (arith, need-line-long)
+
+  pub room-second-comma : at + 1 < length (set l at comma)
+  room-second-comma = simp length-set (omega (arith, need-line-long))
+
+  pub room-need : at + 2 + length (lineText (needCells (n ∷ []))) ≤ length (set (set l at comma) (at + 1) comma)
+  room-need = simp length-set (omega (arith, need-line-long))
+
+  pub need-line-put : (j : List ℕ) (r : ℕ) → Put (set (set l at comma) (at + 1) comma) (at + 2) (lineText (needCells (n ∷ []))) r j → Put l at (needLineText n) r j
+  need-line-put j r g = after-two l at comma comma (needLineText n) (lineText (needCells (n ∷ []))) j r (need-line-parts n) g
+
+-- the fields of no need
+pub no-need-put : (l : List ℕ) (at : ℕ) (text : List ℕ) → text ≡ comma ∷ (LF ∷ []) → Put l at text (at + 2) (set (set l at comma) (at + 1) LF)
+no-need-put l at text e =
+    after-two l at comma LF text [] (set (set l at comma) (at + 1) LF) (at + 2) e (put-nothing (set (set l at comma) (at + 1) LF) (at + 2))
+
+-- ---- the lines of a cluster
+
+-- its part number and version, the fields of its first need, and the lines of the others
+abbrev pair : ClusterStruct → List ℕ
+pair d = pairText (d .part) (d .version) comma
+
+abbrev first : ClusterStruct → List ℕ
+first d = lineText (needCells (viewCluster d .needs))
+
+abbrev others : ClusterStruct → List ℕ
+others d = needLinesText (drop 1 (viewCluster d .needs))
+
+module _ (l : List ℕ) (at : ℕ) (d : ClusterStruct) (o : at + length (clusterLines (viewCluster d)) ≤ length l) where
+  cluster-room : at + length (pair d ++ (first d ++ others d)) ≤ length l
+  cluster-room = rw (cluster-parts (viewCluster d)) at o
+
+  pub room-pair : at + length (pair d) ≤ length l
+  room-pair = room-first l at (pair d) (first d ++ others d) cluster-room
+
+  module _ (m : List ℕ) (p : ℕ) (f : Put l at (pair d) p m) where
+    behind-pair : p + length (first d ++ others d) ≤ length m
+    behind-pair = room-next l at (pair d) (first d ++ others d) m p cluster-room f
+
+    pub room-first-need : p + length (first d) ≤ length m
+    room-first-need = room-first m p (first d) (others d) behind-pair
+
+    module _ (k : List ℕ) (q : ℕ) (g : Put m p (first d) q k) where
+      pub room-need-lines : q + length (others d) ≤ length k
+      room-need-lines = room-next m p (first d) (others d) k q behind-pair g
+
+      pub cluster-put : (j : List ℕ) (r : ℕ) → Put k q (others d) r j → Put l at (clusterLines (viewCluster d)) r j
+      cluster-put j r h =
+          rw (cluster-parts (viewCluster d)) (put-then l at (pair d) (first d ++ others d) m j p r f (put-then m p (first d) (others d) k j q r g h))
+
+-- ---- the list
+
+module _ (l : List ℕ) (t : Table) (o : length (writeList t) ≤ length l) where
+  pub room-names : length namesLine ≤ length l
+  unfolding writeList
+  room-names = omega (arith, length-append namesLine (clustersText t))
+
+  module _ (m : List ℕ) (p : ℕ) (f : Put l 0 namesLine p m) where
+    pub room-clusters : p + length (clustersText t) ≤ length m
+    unfolding writeList
+    room-clusters = omega (arith, length-append namesLine (clustersText t), f .behind, put-length l 0 namesLine m p f)
+
+    pub list-put : (j : List ℕ) (r : ℕ) → Put m p (clustersText t) r j → Put l 0 (writeList t) r j
+    unfolding writeList
+    list-put j r g = put-then l 0 namesLine (clustersText t) m j p r f g

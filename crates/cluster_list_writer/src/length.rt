@@ -1,0 +1,80 @@
+// How many bytes a table has as a list.
+ghost use mathlib.Core.Path.{_≡_};
+ghost use mathlib.Core.Bool.{true};
+ghost use mathlib.Core.List.{[], _∷_};
+ghost use Prim.Native.Nat.{_≤_};
+ghost use lib.ListN.{length, drop};
+ghost use Rattle.rows.specs.Line.{lineText};
+ghost use Rattle.clusters.specs.Cluster.{clusterWithin};
+ghost use Rattle.clusters.specs.Table.{tableWithin};
+ghost use Rattle.clusters.specs.View.{viewCluster, viewTable};
+ghost use Rattle.cluster_list.specs.Write.{needCells, needLinesText, clusterLines, writeList};
+use clusters::cluster::Cluster;
+use clusters::cluster::Need;
+use clusters::table::Table;
+use text::write::number_length;
+use text::write::version_length;
+
+// The fields needs and least of a need, with the comma between them and the LF.
+fn need_length(n: Need) -> usize
+    ensures { λ r. ⌜ r ≡ length (lineText (needCells (n ∷ []))) ⌝ }
+{
+    number_length(n.part) + version_length(n.least) + 2
+}
+
+// The same of the first need of a cluster, or of two empty fields. Here and below the limits of the table meet what is required of
+// a cluster.
+fn first_need_length(c: Cluster) -> usize
+    requires { ⌜ c .«need_count» ≤ 4 ⌝ }
+    ensures { λ r. ⌜ r ≡ length (lineText (needCells (viewCluster c .needs))) ⌝ }
+{
+    if c.need_count < 1 {
+        return 2;
+    }
+    let n = c.needs[0];
+    need_length(n)
+}
+
+// The lines of the needs behind the first, each with two empty fields in front.
+fn need_lines_length(c: Cluster) -> usize
+    requires { ⌜ clusterWithin (viewCluster c) ≡ true ⌝ }
+    ensures { λ r. ⌜ r ≡ length (needLinesText (drop 1 (viewCluster c .needs))) ⌝ }
+{
+    let count = c.need_count;
+    let mut total: usize = 0;
+    let mut i = 1;
+    while i < count {
+        let n = c.needs[i];
+        total += need_length(n) + 2;
+        i += 1;
+    }
+    total
+}
+
+// The lines of a cluster.
+fn cluster_length(c: Cluster) -> usize
+    requires { ⌜ clusterWithin (viewCluster c) ≡ true ⌝ }
+    ensures { λ r. ⌜ r ≡ length (clusterLines (viewCluster c)) ⌝ }
+{
+    number_length(c.part)
+        + version_length(c.version)
+        + 2
+        + first_need_length(c)
+        + need_lines_length(c)
+}
+
+// The list. The table is within its limits: one that was read is, and so are those of a sound state.
+pub fn list_length(t: Table) -> usize
+    requires { ⌜ tableWithin (viewTable t) ≡ true ⌝ }
+    ensures { λ r. ⌜ r ≡ length (writeList (viewTable t)) ⌝ }
+{
+    let count = t.count;
+    let mut total: usize = 28;
+    let mut i = 0;
+    while i < count {
+        let c = t.clusters[i];
+        total += cluster_length(c);
+        i += 1;
+    }
+    total
+}

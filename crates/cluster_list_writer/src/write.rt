@@ -1,0 +1,38 @@
+// A table written as a list.
+ghost use mathlib.Core.Path.{_≡_};
+ghost use mathlib.Core.Bool.{true};
+ghost use Prim.Native.Nat.{_+_, _≤_};
+ghost use lib.ListN.{length};
+ghost use Rattle.text.specs.Put.{Put};
+ghost use Rattle.clusters.specs.Table.{tableWithin};
+ghost use Rattle.clusters.specs.View.{viewTable};
+ghost use Rattle.cluster_list.specs.Write.{clustersText, writeList};
+use crate::put::put_bytes;
+use crate::put::put_cluster;
+use clusters::table::Table;
+
+// The lines of the clusters.
+fn put_clusters(buf: &mut [u8], from: usize, t: Table) -> usize
+    requires { ⌜ (tableWithin (viewTable t) ≡ true) × (from + length (clustersText (viewTable t)) ≤ length (now buf)) ⌝ }
+    ensures { λ r. ⌜ Put (now (buf .entry)) from (clustersText (viewTable t)) r (now (buf .exit)) ⌝ }
+{
+    let count = t.count;
+    let mut at = from;
+    let mut i = 0;
+    while i < count {
+        let c = t.clusters[i];
+        at = put_cluster(buf, at, c);
+        i += 1;
+    }
+    at
+}
+
+// The list at the start of the buffer; gives its length. The table is within its limits: one that was read is, and so are those of
+// a sound state. The caller compares the length of the list, known beforehand, with the buffer's.
+pub fn write_list(buf: &mut [u8], t: Table) -> usize
+    requires { ⌜ (tableWithin (viewTable t) ≡ true) × (length (writeList (viewTable t)) ≤ length (now buf)) ⌝ }
+    ensures { λ r. ⌜ Put (now (buf .entry)) 0 (writeList (viewTable t)) r (now (buf .exit)) ⌝ }
+{
+    let behind_names = put_bytes(buf, 0, b"cluster,version,needs,least\n");
+    put_clusters(buf, behind_names, t)
+}

@@ -6,3 +6,5 @@ pub mod Within
 pub mod Lengths
 pub mod Built
 pub mod ReadLaws
+pub mod LineLength
+pub mod ReadLengths

@@ -1,13 +1,10 @@
 // Versions compared, and needs met by a table of one cluster.
 use crate::show;
+use crate::tables::table_of;
 use crate::tables::version_of;
-use clusters::action::Action;
-use clusters::action::Change;
-use clusters::action::apply;
 use clusters::cluster::Need;
 use clusters::cluster::new_cluster;
 use clusters::needs::meets;
-use clusters::table::empty_table;
 use clusters::version::above;
 
 fn compare(v: &[u8], w: &[u8]) {
@@ -27,13 +24,7 @@ fn need(part: u32, least: &[u8], held: &[u8]) {
     show::bytes(b", 20 at ");
     show::bytes(held);
     show::bytes(b": ");
-    let table = apply(
-        empty_table(),
-        Action {
-            change: Change::Install,
-            cluster: new_cluster(20, version_of(held)),
-        },
-    );
+    let table = table_of(new_cluster(20, version_of(held)));
     if table.count > 64 {
         return;
     }

@@ -36,8 +36,8 @@ fn show_list(name: &[u8], s: &[u8]) {
     }
 }
 
-// Well-formed lists: orders of the names, no value lines, needs.
-fn show_good() {
+// Names in several orders, and no value lines.
+fn show_orders() {
     show_list(
         b"document 01",
         b"version,cluster,least,needs\n1.0.0.3,11,1.0.0.0,20\n1.0.4.0,20,,\n",
@@ -51,6 +51,10 @@ fn show_good() {
         b"needs before",
         b"needs,least,cluster,version\n7,0.0.0.1,7,0.0.0.1\n",
     );
+}
+
+// Needs on the cluster's line and below it, met or not; the largest part number.
+fn show_needs() {
     show_list(
         b"first need on a line below",
         b"cluster,version,needs,least\n1,1.0.0.0,,\n,,2,1.0.0.0\n",
@@ -65,8 +69,8 @@ fn show_good() {
     );
 }
 
-// A damaged list for each rule of lines and names.
-fn show_damaged_lines() {
+// Every line ends in LF.
+fn show_ends() {
     show_list(b"no text", b"");
     show_list(
         b"last line without LF",
@@ -81,6 +85,10 @@ fn show_damaged_lines() {
         b"CR in a value line",
         b"cluster,version,needs,least\n1,1.0.0.0,,\r\n",
     );
+}
+
+// As many fields as names.
+fn show_field_counts() {
     show_list(
         b"one comma more",
         b"cluster,version,needs,least\n1,1.0.0.0,,,\n",
@@ -89,25 +97,25 @@ fn show_damaged_lines() {
         b"one comma fewer",
         b"cluster,version,needs,least\n1,1.0.0.0,\n",
     );
+    show_list(b"empty line", b"cluster,version,needs,least\n\n");
+    show_list(
+        b"empty fields",
+        b"cluster,version,needs,least\n1,1.0.0.0,,\n,,,\n",
+    );
+}
+
+// Each name once, as a fixed byte string.
+fn show_names() {
     show_list(b"unknown name", b"cluster,version,need,least\n");
     show_list(b"name in capitals", b"Cluster,version,needs,least\n");
     show_list(b"repeated name", b"cluster,version,needs,needs\n");
     show_list(b"missing name", b"cluster,version,needs\n");
     show_list(b"fifth name", b"cluster,version,needs,least,stays\n");
     show_list(b"blank behind a name", b"cluster ,version,needs,least\n");
-    show_list(b"empty line", b"cluster,version,needs,least\n\n");
 }
 
-// A damaged list for each rule of values.
-fn show_damaged_values() {
-    show_list(
-        b"clusters that fall",
-        b"cluster,version,needs,least\n2,1.0.0.0,,\n1,1.0.0.0,,\n",
-    );
-    show_list(
-        b"repeated cluster",
-        b"cluster,version,needs,least\n2,1.0.0.0,,\n2,1.0.0.1,,\n",
-    );
+// At most 4 needs, both fields filled, below a cluster.
+fn show_needs_damaged() {
     show_list(
         b"fifth need",
         b"cluster,version,needs,least\n1,1.0.0.0,2,1.0.0.0\n,,3,1.0.0.0\n,,4,1.0.0.0\n,,5,1.0.0.0\n,,6,1.0.0.0\n",
@@ -128,9 +136,17 @@ fn show_damaged_values() {
         b"need line first",
         b"cluster,version,needs,least\n,,2,1.0.0.0\n",
     );
+}
+
+// Rising part numbers, each with a version.
+fn show_clusters() {
     show_list(
-        b"empty fields",
-        b"cluster,version,needs,least\n1,1.0.0.0,,\n,,,\n",
+        b"clusters that fall",
+        b"cluster,version,needs,least\n2,1.0.0.0,,\n1,1.0.0.0,,\n",
+    );
+    show_list(
+        b"repeated cluster",
+        b"cluster,version,needs,least\n2,1.0.0.0,,\n2,1.0.0.1,,\n",
     );
     show_list(
         b"cluster without version",
@@ -140,6 +156,10 @@ fn show_damaged_values() {
         b"version without cluster",
         b"cluster,version,needs,least\n,1.0.0.0,,\n",
     );
+}
+
+// Part numbers of 1 to 4,294,967,295.
+fn show_part_numbers() {
     show_list(
         b"part number 0",
         b"cluster,version,needs,least\n0,1.0.0.0,,\n",
@@ -152,6 +172,10 @@ fn show_damaged_values() {
         b"need of part number 0",
         b"cluster,version,needs,least\n1,1.0.0.0,0,1.0.0.0\n",
     );
+}
+
+// Versions of four parts of 0 to 65,535.
+fn show_version_fields() {
     show_list(
         b"version 01.0.0.0",
         b"cluster,version,needs,least\n1,01.0.0.0,,\n",
@@ -187,8 +211,14 @@ fn show_long() {
 }
 
 pub fn show_all() {
-    show_good();
-    show_damaged_lines();
-    show_damaged_values();
+    show_orders();
+    show_needs();
+    show_ends();
+    show_field_counts();
+    show_names();
+    show_needs_damaged();
+    show_clusters();
+    show_part_numbers();
+    show_version_fields();
     show_long();
 }

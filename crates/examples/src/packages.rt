@@ -55,7 +55,7 @@ fn show_package(name: &[u8], area: &[u8]) {
     show::bytes(b"\n");
 }
 
-// Well-formed packages: orders of the names, each action, needs, payloads.
+// Names in two orders, each action, payloads of no bytes and of LF.
 fn show_good() {
     show_package(
         b"M10",
@@ -77,6 +77,10 @@ fn show_good() {
         b"payload 0",
         b"action,cluster,version,payload,sum,needs,least\ninstall,30,1.0.0.0,0,0,,\n\n",
     );
+}
+
+// 1 to 4 value lines.
+fn show_needs() {
     show_package(
         b"needs on four lines",
         b"action,cluster,version,payload,sum,needs,least\ninstall,30,1.0.0.0,1,0,1,1.0.0.0\n,,,,,2,1.0.0.0\n,,,,,3,1.0.0.0\n,,,,,4,1.0.0.0\n\nx",
@@ -85,10 +89,6 @@ fn show_good() {
         b"first line without a need",
         b"action,cluster,version,payload,sum,needs,least\nupdate,30,1.0.0.0,1,0,,\n,,,,,2,1.0.0.0\n,,,,,3,1.0.0.0\n,,,,,4,1.0.0.0\n\nx",
     );
-}
-
-// A damaged package for each rule of lines and names, and of the first fields.
-fn show_damaged_lines() {
     show_package(
         b"five value lines",
         b"action,cluster,version,payload,sum,needs,least\ninstall,30,1.0.0.0,1,0,1,1.0.0.0\n,,,,,2,1.0.0.0\n,,,,,3,1.0.0.0\n,,,,,4,1.0.0.0\n,,,,,5,1.0.0.0\n\nx",
@@ -97,11 +97,27 @@ fn show_damaged_lines() {
         b"no value line",
         b"action,cluster,version,payload,sum,needs,least\n\nx",
     );
+}
+
+// The empty line, and as many fields as names.
+fn show_lines() {
     show_package(
         b"no empty line",
         b"action,cluster,version,payload,sum,needs,least\ninstall,30,1.0.0.0,5,51440,20,1.0.4.0\nabcde",
     );
     show_package(b"nothing", b"");
+    show_package(
+        b"six fields",
+        b"action,cluster,version,payload,sum,needs,least\ninstall,30,1.0.0.0,0,0,\n\n",
+    );
+    show_package(
+        b"eight fields",
+        b"action,cluster,version,payload,sum,needs,least\ninstall,30,1.0.0.0,0,0,,,\n\n",
+    );
+}
+
+// Each name once, as a fixed byte string.
+fn show_names() {
     show_package(
         b"six names",
         b"action,cluster,version,payload,sum,needs\ninstall,30,1.0.0.0,0,0,\n\n",
@@ -114,14 +130,10 @@ fn show_damaged_lines() {
         b"name in capitals",
         b"Action,cluster,version,payload,sum,needs,least\ninstall,30,1.0.0.0,0,0,,\n\n",
     );
-    show_package(
-        b"six fields",
-        b"action,cluster,version,payload,sum,needs,least\ninstall,30,1.0.0.0,0,0,\n\n",
-    );
-    show_package(
-        b"eight fields",
-        b"action,cluster,version,payload,sum,needs,least\ninstall,30,1.0.0.0,0,0,,,\n\n",
-    );
+}
+
+// The action words, as fixed byte strings.
+fn show_actions() {
     show_package(
         b"unknown action",
         b"action,cluster,version,payload,sum,needs,least\nreplace,30,1.0.0.0,0,0,,\n\n",
@@ -134,6 +146,10 @@ fn show_damaged_lines() {
         b"no action",
         b"action,cluster,version,payload,sum,needs,least\n,30,1.0.0.0,0,0,,\n\n",
     );
+}
+
+// Part number and version of an install.
+fn show_clusters() {
     show_package(
         b"part number 0",
         b"action,cluster,version,payload,sum,needs,least\ninstall,0,1.0.0.0,0,0,,\n\n",
@@ -142,14 +158,14 @@ fn show_damaged_lines() {
         b"install without version",
         b"action,cluster,version,payload,sum,needs,least\ninstall,30,,0,0,,\n\n",
     );
-}
-
-// A damaged package for each rule of the other fields, of a remove and of the payload.
-fn show_damaged_values() {
     show_package(
         b"version 1.0.0",
         b"action,cluster,version,payload,sum,needs,least\ninstall,30,1.0.0,0,0,,\n\n",
     );
+}
+
+// Limits of payload and sum.
+fn show_payloads() {
     show_package(
         b"largest payload",
         b"action,cluster,version,payload,sum,needs,least\ninstall,30,1.0.0.0,16777216,0,,\n\n",
@@ -166,6 +182,10 @@ fn show_damaged_values() {
         b"no sum",
         b"action,cluster,version,payload,sum,needs,least\ninstall,30,1.0.0.0,0,,,\n\n",
     );
+}
+
+// Value lines after the first fill only needs and least, both.
+fn show_later_lines() {
     show_package(
         b"half a need",
         b"action,cluster,version,payload,sum,needs,least\ninstall,30,1.0.0.0,0,0,20,\n\n",
@@ -178,6 +198,10 @@ fn show_damaged_values() {
         b"later line with a version",
         b"action,cluster,version,payload,sum,needs,least\ninstall,30,1.0.0.0,0,0,,\n,,1.0.0.0,,,2,1.0.0.0\n\n",
     );
+}
+
+// A remove has no version, no need, payload 0 and one value line.
+fn show_removes() {
     show_package(
         b"remove with a version",
         b"action,cluster,version,payload,sum,needs,least\nremove,30,1.0.0.0,0,0,,\n\n",
@@ -198,6 +222,10 @@ fn show_damaged_values() {
         b"remove with two lines",
         b"action,cluster,version,payload,sum,needs,least\nremove,30,,0,0,,\n,,,,,2,1.0.0.0\n\n",
     );
+}
+
+// The bytes behind the empty line are the payload.
+fn show_counts() {
     show_package(
         b"one byte too few",
         b"action,cluster,version,payload,sum,needs,least\ninstall,30,1.0.0.0,5,51440,20,1.0.4.0\n\nabcd",
@@ -210,6 +238,13 @@ fn show_damaged_values() {
 
 pub fn show_all() {
     show_good();
-    show_damaged_lines();
-    show_damaged_values();
+    show_needs();
+    show_lines();
+    show_names();
+    show_actions();
+    show_clusters();
+    show_payloads();
+    show_later_lines();
+    show_removes();
+    show_counts();
 }

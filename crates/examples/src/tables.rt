@@ -4,6 +4,7 @@ use clusters::action::Action;
 use clusters::action::Change;
 use clusters::action::action_refusal;
 use clusters::action::apply;
+use clusters::cluster::Cluster;
 use clusters::cluster::Need;
 use clusters::cluster::new_cluster;
 use clusters::cluster::with_need;
@@ -119,6 +120,17 @@ fn remove(table: Table, part: u32) -> Table {
     )
 }
 
+// A table of one cluster.
+pub fn table_of(cluster: Cluster) -> Table {
+    apply(
+        empty_table(),
+        Action {
+            change: Change::Install,
+            cluster,
+        },
+    )
+}
+
 // Whether all needs are met in a table of cluster 7 alone, which needs itself at a least version.
 fn need_of_itself(least: &[u8]) {
     show::bytes(b"7 at 1.0.0.0 needs 7 at ");
@@ -135,13 +147,7 @@ fn need_of_itself(least: &[u8]) {
             least: version_of(least),
         },
     );
-    let table = apply(
-        empty_table(),
-        Action {
-            change: Change::Install,
-            cluster: needing,
-        },
-    );
+    let table = table_of(needing);
     if table_within(table) {
         show::yes_or_no(needs_met(table));
     }

@@ -37,11 +37,8 @@ version-of-requires-2 c κs = search needs
 with-need-requires : tie.Need-with-need-requires
 with-need-requires c κs = search needs
 
-empty-table-requires : tie.Need-empty-table-requires
-empty-table-requires c κs = search needs
-
-apply-requires : tie.Need-apply-requires
-apply-requires c κs = search needs
+table-of-requires : tie.Need-table-of-requires
+table-of-requires c κs = search needs
 
 table-within-requires : tie.Need-table-within-requires
 table-within-requires c κs = search needs
@@ -73,8 +70,7 @@ need-of-itself-spec =
     returns
     version-of-requires-2
     with-need-requires
-    empty-table-requires
-    apply-requires
+    table-of-requires
     table-within-requires
     needs-met-requires
     yes-or-no-requires

@@ -51,7 +51,7 @@ pub fn apply(t: Table, a: Action) -> Table
     }
 }
 
-// The refusals 12 to 15 of an install: 12 or 15, or 0.
+// The refusals 12 to 15 of an install: 12 or 15, or 0. Here and below action_refusal passes on what it requires of the table.
 fn install_refusal(t: Table, c: Cluster) -> u32
     requires { ⌜ t .count ≤ clustersMost ⌝ }
     ensures { λ r. ⌜ r ≡ actionRefusal (viewTable t) [] (install (viewCluster c)) ⌝ }

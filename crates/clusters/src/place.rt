@@ -27,7 +27,7 @@ fn insert_place(t: Table, part: u32) -> usize
     i
 }
 
-// A cluster at a place, with what stood from there on moved up by one.
+// A cluster at a place, with what stood from there on moved up by one. insert_place gives such a place.
 fn insert_at(t: Table, place: usize, c: Cluster) -> Table
     requires { ⌜ (t .count < clustersMost) × (place ≤ t .count) ⌝ }
     ensures { λ r. ⌜ r ≡ insertAt place c t ⌝ }
@@ -74,7 +74,7 @@ pub fn replace(t: Table, c: Cluster) -> Table
     }
 }
 
-// The table without the cluster at a place: what stands behind it moved down by one.
+// The table without the cluster at a place: what stands behind it moved down by one. find gives such a place.
 fn close_gap(t: Table, place: usize) -> Table
     requires { ⌜ (t .count ≤ clustersMost) × (place < t .count) ⌝ }
     ensures { λ r. ⌜ r ≡ closeGap place t ⌝ }

@@ -25,7 +25,7 @@ fn digit(b: u8) -> u64
 }
 
 // A number that has the value first so far and goes on at a position. The value is compared with most
-// at every digit, so any length of digits is safe.
+// at every digit, so any length of digits is safe. number_at meets the limit: it has compared the first digit.
 fn number_goes_on(s: &[u8], at: usize, first: u32, most: u32) -> Number
     requires { ⌜ first ≤ most ⌝ }
     ensures { λ r. ⌜ r ≡ numberGoesOn most first at (drop at (now (s .entry))) ⌝ }

@@ -15,9 +15,8 @@ use Rattle.clusters.specs.declared.cluster.Cluster.{Cluster as ClusterSt
 use Rattle.clusters.specs.declared.table.Table.{Table as TableStruct}
 use Rattle.clusters.specs.Cluster.{Cluster, needsMost}
 use Rattle.clusters.specs.Table.{Table, tableWithin, risingAbove, clustersMost}
-use Rattle.clusters.specs.Action.{Action, install, update, remove, actionWithin}
-use Rattle.clusters.specs.View.{noNeed, noCluster, viewCluster, viewTable, viewAction}
-use Rattle.clusters.specs.Struct.{padded, structCluster, clearedCluster, structTable, structAction}
+use Rattle.clusters.specs.View.{noNeed, noCluster, viewCluster, viewTable}
+use Rattle.clusters.specs.Struct.{padded, structCluster, clearedCluster, structTable}
 use Rattle.clusters.specs.Exact as exact
 use Rattle.clusters.proofs.Limits.{rising-says, few-clusters, rising-clusters, cluster-few-needs}
 use Rattle.clusters.proofs.Views.{moreNeeds}
@@ -112,11 +111,3 @@ view-struct t h =
     viewed last (c ∷ u) r =
         let s = rising-says last c u r in
         ap₂ _∷_ (view-struct-cluster c (leb-true (length (c .needs)) needsMost (cluster-few-needs c (s .within)))) (viewed (c .part) u (s .rest))
-
--- ---- actions
-
-pub view-struct-action : (a : Action) → actionWithin a ≡ true → viewAction (structAction a) ≡ a
-unfolding structAction actionWithin
-view-struct-action (install c) h = ap install (view-struct-cluster c (leb-true (length (c .needs)) needsMost (cluster-few-needs c h)))
-view-struct-action (update c) h = ap update (view-struct-cluster c (leb-true (length (c .needs)) needsMost (cluster-few-needs c h)))
-view-struct-action (remove part) h = ap remove (unfold structCluster in refl)

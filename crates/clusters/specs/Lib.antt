@@ -1,9 +1,7 @@
 pub mod Version
 pub mod Cluster
 pub mod Table
-pub mod Action
 pub mod View
 pub mod Struct
 pub mod Place
 pub mod Exact
-pub mod Refused

@@ -3,7 +3,7 @@ use Prim.Native.Nat.{ℕ, _+_}
 use mathlib.Core.Bool.{cond}
 use mathlib.Core.List.{[], _∷_}
 use mathlib.Core.Option.{Option, none}
-use lib.Dec.{eqb, ltb}
+use lib.Dec.{eqb}
 use lib.ListN.{getElem?}
 use Rattle.clusters.specs.declared.table.Found.{Found}
 use Rattle.clusters.specs.declared.table.Found.the-variants.{At, Nothing}
@@ -22,9 +22,3 @@ placeOf part t = placeFrom 0 part t
 abbrev pub foundCluster : Table → Found → Option Cluster
 foundCluster t (At i) = getElem? t i
 foundCluster t Nothing = none
-
--- the place of the first cluster with a larger part number, or the place behind the last, in a list whose first cluster has
--- the place i
-unfoldable pub insertPlaceFrom : ℕ → ℕ → Table → ℕ
-insertPlaceFrom i part [] = i
-insertPlaceFrom i part (c ∷ t) = cond (ltb part (c .part)) i (insertPlaceFrom (i + 1) part t)

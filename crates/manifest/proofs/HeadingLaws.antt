@@ -9,7 +9,7 @@ use Rattle.text.specs.declared.version.Version.{Version}
 use Rattle.rows.specs.declared.columns.PackageColumns.{PackageColumns}
 use Rattle.clusters.specs.declared.cluster.Need.{Need}
 use Rattle.clusters.specs.declared.cluster.Cluster.{Cluster as ClusterStruct}
-use Rattle.clusters.specs.declared.action.Change.{Change}
+use Rattle.actions.specs.declared.action.Change.{Change}
 use Rattle.clusters.specs.Cluster.{Cluster, needsMost}
 use Rattle.clusters.specs.Struct.{structCluster}
 use Rattle.clusters.specs.Exact.{newCluster, withNeed}

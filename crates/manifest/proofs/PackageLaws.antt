@@ -20,12 +20,14 @@ use Rattle.rows.specs.Line.{lineFrom, andThenLine}
 use Rattle.rows.specs.Columns.{andThenPackageColumns}
 use Rattle.clusters.specs.declared.cluster.Need.{Need}
 use Rattle.clusters.specs.declared.cluster.Cluster.{Cluster as ClusterStruct}
-use Rattle.clusters.specs.declared.action.Change.{Change}
-use Rattle.clusters.specs.declared.action.Change.the-variants.{Install, Update, Remove}
-use Rattle.clusters.specs.declared.action.Action.{Action as ActionStruct}
+use Rattle.actions.specs.declared.action.Change.{Change}
+use Rattle.actions.specs.declared.action.Change.the-variants.{Install, Update, Remove}
+use Rattle.actions.specs.declared.action.Action.{Action as ActionStruct}
 use Rattle.clusters.specs.Cluster.{Cluster, needsMost}
-use Rattle.clusters.specs.View.{noVersion, actionOf}
-use Rattle.clusters.specs.Struct.{structCluster, structAction}
+use Rattle.clusters.specs.View.{noVersion}
+use Rattle.actions.specs.View.{actionOf}
+use Rattle.clusters.specs.Struct.{structCluster}
+use Rattle.actions.specs.Struct.{structAction}
 use Rattle.clusters.specs.Exact as exact
 use Rattle.clusters.proofs.Structs.{struct-with-need}
 use Rattle.cluster_list.specs.Read.{andThenSome, withNeed}

@@ -21,13 +21,13 @@ use Rattle.rows.specs.Line.{lineFrom}
 use Rattle.rows.specs.Columns.{packageColumns}
 use Rattle.rows.proofs.ThenLaws.{then-cases-line, then-cases-package-columns}
 use Rattle.clusters.specs.declared.cluster.Need.{Need}
-use Rattle.clusters.specs.declared.action.Change.{Change}
-use Rattle.clusters.specs.declared.action.Change.the-variants.{Install, Update, Remove}
+use Rattle.actions.specs.declared.action.Change.{Change}
+use Rattle.actions.specs.declared.action.Change.the-variants.{Install, Update, Remove}
 use Rattle.clusters.specs.Cluster.{Cluster, partWithin, needWithin, needsMost, clusterWithin}
-use Rattle.clusters.specs.Action.{actionWithin}
-use Rattle.clusters.specs.Struct.{structAction}
-use Rattle.clusters.proofs.Structs.{view-struct-action}
-use Rattle.clusters.specs.View.{viewAction, actionOf}
+use Rattle.actions.specs.Action.{actionWithin}
+use Rattle.actions.specs.Struct.{structAction}
+use Rattle.actions.proofs.Structs.{view-struct-action}
+use Rattle.actions.specs.View.{viewAction, actionOf}
 use Rattle.cluster_list.specs.Cells.{partField, needFields}
 use Rattle.cluster_list.specs.Read.{withNeed}
 use Rattle.cluster_list.proofs.ThenLaws.{then-cases-need}

@@ -2,7 +2,7 @@
 use mathlib.Core.List.{List, [], _∷_}
 use mathlib.Core.Option.{Option, none, some}
 use Rattle.clusters.specs.declared.cluster.Need.{Need}
-use Rattle.clusters.specs.declared.action.Change.{Change}
+use Rattle.actions.specs.declared.action.Change.{Change}
 use Rattle.manifest.specs.declared.change.ChangeRead.{ChangeRead}
 use Rattle.manifest.specs.declared.change.ChangeRead.the-variants as change-read
 use Rattle.manifest.specs.declared.heading.FirstNeed.{FirstNeed}

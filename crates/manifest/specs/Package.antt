@@ -16,11 +16,12 @@ use Rattle.rows.specs.Field.{cell, isEmpty}
 use Rattle.rows.specs.Line.{lineFrom, andThenLine}
 use Rattle.rows.specs.Columns.{packageColumns, andThenPackageColumns}
 use Rattle.clusters.specs.declared.cluster.Need.{Need}
-use Rattle.clusters.specs.declared.action.Change.{Change}
-use Rattle.clusters.specs.declared.action.Change.the-variants.{Install, Update, Remove}
+use Rattle.actions.specs.declared.action.Change.{Change}
+use Rattle.actions.specs.declared.action.Change.the-variants.{Install, Update, Remove}
 use Rattle.clusters.specs.Cluster.{Cluster}
-use Rattle.clusters.specs.Action.{Action}
-use Rattle.clusters.specs.View.{noVersion, actionOf}
+use Rattle.actions.specs.Action.{Action}
+use Rattle.clusters.specs.View.{noVersion}
+use Rattle.actions.specs.View.{actionOf}
 use Rattle.cluster_list.specs.Cells.{partField, needFields, andThenNeed}
 use Rattle.cluster_list.specs.Read.{andThenSome, withNeed}
 

@@ -5,6 +5,7 @@ use mathlib.Core.List.{List, [], _∷_}
 use mathlib.Core.Option.{Option, none, some}
 use lib.Dec.{eqb, leb, ltb}
 use lib.ListN.{length}
+use Rattle.base.specs.Refusals.{Refusal, refuse_when_}
 use Rattle.checksum.specs.Sum.{sumsWithin}
 use Rattle.clusters.specs.Table.{Table, tableWithin}
 use Rattle.clusters.specs.Action.{passes, passInTurn, actionWithin, actionsWithin}
@@ -103,3 +104,7 @@ soundFor s storeLength =
 -- "The store's bytes play no part in it."
 abbrev pub sound : State → Store → Bool
 sound s store = soundFor s (length store)
+
+-- "1. BadState: any call but Load; the state isn't sound"
+abbrev pub badState : State → Store → Refusal
+badState s store = refuse 1 when not (sound s store)

@@ -56,3 +56,7 @@ settled s store none o = o
 -- a call whose refusals are those of the model, with what it gives where none applies
 unfoldable pub called : State → Store → calls.Call → Outcome → Outcome
 called s store call accepts = settled s store (firstRefusal (step.refusals (viewState s) store call)) accepts
+
+-- the same behind 1, of a sound state
+unfoldable pub calledOnSound : State → Store → calls.Call → Outcome → Outcome
+calledOnSound s store call accepts = settled s store (firstRefusal (step.furtherRefusals (viewState s) store call)) accepts

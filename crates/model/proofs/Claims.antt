@@ -24,6 +24,7 @@ use Rattle.model.specs.Run.{Made, Run, run, acceptedOnly, callsOf}
 use Rattle.model.specs.Journal.{Journal, opened, journal}
 use Rattle.model.specs.Reading.{clusterInfo}
 use Rattle.model.specs.Demand3.{Undone, TableAtReturn, sessionGoesOn, LastSession, mayWriteStore, AgreesWith, Demand3}
+use Rattle.model.proofs.soundness.SoundFacts.{sound-by-length}
 use Rattle.model.proofs.soundness.KeptSound.{step-sound}
 use Rattle.model.proofs.soundness.LoadSound.{load-refused, load-gives-back}
 use Rattle.model.proofs.soundness.RunningWithin.{info-loads}
@@ -54,6 +55,10 @@ pub refused-load-changes-nothing : (given : State) (list : List ℕ) (first : �
     → load given list first lent .reply ≡ refused number
     → (load given list first lent .state ≡ given) × (load given list first lent .store ≡ lent)
 refused-load-changes-nothing = load-gives-back
+
+-- "The store's bytes play no part in it.": soundness sees the store's length alone
+pub soundness-by-length : (s : State) (a b : Store) → length a ≡ length b → sound s a ≡ sound s b
+soundness-by-length = sound-by-length
 
 -- every call on a sound state gives a sound state, whatever bytes the store holds
 pub soundness-is-kept : (s : State) (store : Store) (call : Call) → sound s store ≡ true

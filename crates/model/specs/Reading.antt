@@ -11,11 +11,12 @@ use Rattle.text.specs.Digits.{digits}
 use Rattle.rows.specs.Line.{lineText}
 use Rattle.actions.specs.Action.{Action, install, update, remove, actionPart}
 use Rattle.cluster_list.specs.Write.{writeList}
+use Rattle.manifest.specs.Refused.{packageRefusals}
 use Rattle.model.specs.State.{packageStateNumber, Package, Entry, Work, State, Store, actions}
 use Rattle.model.specs.Areas.{find, packageOf, areaOf, isTransferring}
 use Rattle.model.specs.Tables.{running}
-use Rattle.model.specs.Sound.{sound}
-use Rattle.model.specs.Step.{unknown, areaRead, named, isIllFormed, isInconsistent, manifestOf}
+use Rattle.model.specs.Sound.{sound, badState}
+use Rattle.model.specs.Step.{unknown, areaRead, named, manifestOf}
 
 -- ---- reports into a lent buffer
 
@@ -104,12 +105,10 @@ changeInfoReport s store old = reportOf (sound s store) (changeInfo s) old
 -- 1; 4; 5 "Payload on Transferring"; 9; 10
 unfoldable pub payloadRefusals : State → Store → ℕ → List Refusal
 payloadRefusals s store id =
-    (refuse 1 when not (sound s store))
+    badState s store
     ∷ (refuse 4 when unknown id (s .transfers .packages))
     ∷ (refuse 5 when isTransferring (named s store id .state))
-    ∷ (refuse 9 when isIllFormed (areaRead s store id))
-    ∷ (refuse 10 when isInconsistent (areaRead s store id))
-    ∷ []
+    ∷ packageRefusals (areaRead s store id)
 
 -- "a call beside it with the same checks gives the refusal number, or 0"
 unfoldable pub payloadCheck : State → Store → ℕ → ℕ

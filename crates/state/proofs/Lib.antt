@@ -1,0 +1,4 @@
+pub mod Permitted
+pub mod CountedArrays
+pub mod Views
+pub mod Outcomes

@@ -1,0 +1,4 @@
+pub mod View
+pub mod Exact
+pub mod Outcome
+pub mod Permissions

@@ -1,0 +1,58 @@
+// The whole state: what every call is handed and gives back.
+use crate::phase::Phase;
+use crate::session::Session;
+use crate::session::new_session;
+use crate::transfers::Transfers;
+use crate::transfers::no_transfers;
+use crate::work::Work;
+use crate::work::cleared_work;
+use clusters::table::Table;
+ghost use mathlib.Core.Path.{_≡_};
+ghost use Rattle.state.specs.Exact.{loadedState, inPhase, withTransfers};
+
+// The kept values stand beside the phase: a state in another phase is a change of one field.
+pub struct State {
+    pub phase: Phase,
+    pub transfers: Transfers,
+    pub session: Session,
+    pub work: Work,
+}
+
+// The state that Load gives: Idle, with no package, a table and the first id to be given.
+pub fn loaded_state(table: Table, first: u32) -> State
+    ensures { λ r. ⌜ r ≡ loadedState table first ⌝ }
+{
+    let transfers = no_transfers(first);
+    let session = new_session(table);
+    let work = cleared_work();
+    State {
+        phase: Phase::Idle,
+        transfers: transfers,
+        session: session,
+        work: work,
+    }
+}
+
+// A state in another phase.
+pub fn in_phase(s: State, phase: Phase) -> State
+    ensures { λ r. ⌜ r ≡ inPhase phase s ⌝ }
+{
+    let transfers = s.transfers;
+    let session = s.session;
+    let work = s.work;
+    State {
+        phase: phase,
+        transfers: transfers,
+        session: session,
+        work: work,
+    }
+}
+
+// A state with other transfers.
+pub fn with_transfers(s: State, transfers: Transfers) -> State
+    ensures { λ r. ⌜ r ≡ withTransfers transfers s ⌝ }
+{
+    let mut changed = s;
+    changed.transfers = transfers;
+    changed
+}

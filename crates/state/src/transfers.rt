@@ -1,0 +1,60 @@
+// The packages in id order, and the id that the next transfer is given.
+use crate::limits::PACKAGES_MOST;
+use crate::package::Package;
+use crate::package::new_package;
+ghost use mathlib.Core.Path.{_≡_};
+ghost use Prim.Native.Nat.{_+_, _<_};
+ghost use Rattle.model.specs.Sound.{packagesMost};
+ghost use Rattle.state.specs.Exact.{noTransfers, withPackage, withNewPackage};
+
+// The first count of the packages count; the places behind them are unused. The next id is 64 bits wide, because it is one above
+// the last of 32 bits when all are spent.
+pub struct Transfers {
+    pub packages: [Package; PACKAGES_MOST],
+    pub count: usize,
+    pub next: u64,
+}
+
+// No packages, with the first id to be given. Every unused place is cleared.
+pub fn no_transfers(first: u32) -> Transfers
+    ensures { λ r. ⌜ r ≡ noTransfers first ⌝ }
+{
+    let cleared = new_package(0, 0);
+    let packages = [cleared; PACKAGES_MOST];
+    Transfers {
+        packages: packages,
+        count: 0,
+        next: first as u64,
+    }
+}
+
+// Another package in the place of the one at i. A place that was found is below the count, which fits.
+pub fn with_package(t: Transfers, i: usize, p: Package) -> Transfers
+    requires { ⌜ i < packagesMost ⌝ }
+    ensures { λ r. ⌜ r ≡ withPackage i p t ⌝ }
+{
+    let mut packages = t.packages;
+    packages[i] = p;
+    Transfers {
+        packages: packages,
+        count: t.count,
+        next: t.next,
+    }
+}
+
+// A package of a size behind the others, with the next id, which then rises by one. TransferStart sees before that there is room
+// for a package and an id for it.
+pub fn with_new_package(t: Transfers, size: u32) -> Transfers
+    requires { ⌜ (t .count < packagesMost) × (t .next < 4294967296) ⌝ }
+    ensures { λ r. ⌜ r ≡ withNewPackage size t ⌝ }
+{
+    let count = t.count;
+    let next = t.next;
+    let mut packages = t.packages;
+    packages[count] = new_package(next as u32, size);
+    Transfers {
+        packages: packages,
+        count: count + 1,
+        next: next + 1,
+    }
+}

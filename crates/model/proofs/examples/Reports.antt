@@ -14,7 +14,7 @@ use Rattle.model.specs.Sound.{sound}
 use Rattle.model.specs.Step.{Outcome}
 use Rattle.model.specs.Run.{Made, Run}
 use Rattle.model.specs.Reading.{ReadingReply, refusedBy, shortBuffer, given, Report, packagesReport, clusterInfoReport, changeInfoReport, PackageRecord, packageRecords, clusterInfo, changeInfo, payload, payloadCheck, progress}
-use Rattle.model.specs.Open.{computing}
+use Rattle.model.proofs.examples.Open.{computing}
 use Rattle.model.proofs.examples.Transcript.{line, listText, packageText, loadedFrom, _gives_, callsToTransfer, callsToProcess, callsToVerifying, after, Holds}
 use Rattle.model.proofs.examples.BenchExamples.{installText}
 use Rattle.model.proofs.examples.Sessions.{updateText}

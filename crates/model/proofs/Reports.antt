@@ -28,7 +28,7 @@ use Rattle.model.specs.Areas.{find, areaOf, isProcessed, countIn}
 use Rattle.model.specs.Tables.{running}
 use Rattle.model.specs.Sound.{packagesMost, keptSound, sound}
 use Rattle.model.specs.Step.{named, areaRead, manifestOf}
-use Rattle.model.specs.Reading.{ReadingReply, refusedBy, shortBuffer, given, replyNumber, readingReply, furtherReportRefusals, reportRefusals, reportReply, reportBuffer, packageRecords, clusterInfo, changeWord, changeLines, changeInfo, furtherPayloadRefusals, payloadRefusals, payloadPart, emptyWhenRefused, payloadReply, payload, payloadCheck, progressOf, progressRefusals, progress}
+use Rattle.model.specs.Reading.{ReadingReply, refusedBy, shortBuffer, given, replyNumber, readingReply, furtherReportRefusals, reportRefusals, reportReply, reportBuffer, packageRecords, clusterInfo, changeWord, changeLines, changeInfo, changeInfoMost, furtherPayloadRefusals, payloadRefusals, payloadPart, emptyWhenRefused, payloadReply, payload, payloadCheck, progressOf, progressRefusals, progress}
 use Rattle.model.proofs.soundness.SoundFacts.{sound-says, work-says}
 use Rattle.model.proofs.soundness.Packages.{known-is}
 use Rattle.model.proofs.soundness.Accepted.{first-passed, rest-passed, on-sound, on-unsound, read-is}
@@ -168,8 +168,8 @@ module _ (s : State) (store : Store) (h : sound s store ≡ true) where
   unfolding clusterInfo
   cluster-info-most = list-most (running s) (running-within s store h)
 
-  -- 15 + 16 × 19
-  pub change-info-most : length (changeInfo s) ≤ 319
+  -- 15 + 16 × 19; `longest` of LongestChangeInfo is as long
+  pub change-info-most : length (changeInfo s) ≤ changeInfoMost
   unfolding changeInfo
   change-info-most =
       let ok = sound-says s store h in

@@ -111,6 +111,10 @@ changeLines (a ∷ rest) = lineText (digits (actionPart a) ∷ changeWord a ∷ 
 unfoldable pub changeInfo : State → List ℕ
 changeInfo s = lineText (bytes "cluster" ∷ bytes "change" ∷ []) ++ changeLines (actions (s .session .listed))
 
+-- the bytes of the longest ChangeInfo: the names line, and 16 lines of a part number of ten digits and `Updated` or `Removed`
+abbrev pub changeInfoMost : ℕ
+changeInfoMost = 319
+
 unfoldable pub changeInfoReport : State → Store → List ℕ → Report ℕ
 changeInfoReport s store old = reportOf s store (changeInfo s) old
 

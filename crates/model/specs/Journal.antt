@@ -1,6 +1,6 @@
 -- Document 01's "book" of demand 3, here `Journal`: "Its book sees each call and its answer, nothing of the state."
 use Prim.Native.Nat.{ℕ}
-use mathlib.Core.Bool.{Bool, true, false, cond, not}
+use mathlib.Core.Bool.{Bool, true, false, cond}
 use mathlib.Core.List.{List, [], _∷_, _++_}
 use lib.Dec.{eqb}
 use Rattle.clusters.specs.Table.{Table}

@@ -6,14 +6,13 @@ use mathlib.Core.Option.{Option, none, some}
 use lib.Dec.{eqb, leb, ltb}
 use lib.ListN.{length, take, drop}
 use Rattle.base.specs.Refusals.{Refusal, refuse_when_, firstRefusal}
-use Rattle.checksum.specs.declared.Sums.{Sums}
 use Rattle.checksum.specs.Sum.{startSums, continued, sumNumber}
 use Rattle.clusters.specs.Table.{Table, needsMet}
-use Rattle.actions.specs.Action.{Action, remove}
+use Rattle.actions.specs.Action.{remove}
 use Rattle.actions.specs.Refusals.{actionRefusals}
 use Rattle.manifest.specs.Package.{Manifest, PackageRead, illFormed, inconsistent, consistent, readPackage}
 use Rattle.manifest.specs.Refused.{packageRefusals}
-use Rattle.model.specs.State.{PackageState, transferred, beingProcessed, Package, RollbackOrigin, verifyingRollsBack, activatedRollsBack, CleanUpOrigin, readyCleansUp, activatedCleansUp, rolledBackCleansUp, Phase, idle, ready, processing, activating, verifying, activated, rollingBack, rolledBack, cleaningUp, phaseNumber, isProcessing, Transfers, Entry, Session, Work, State, state, Store, actions}
+use Rattle.model.specs.State.{PackageState, transferred, beingProcessed, Package, RollbackOrigin, verifyingRollsBack, activatedRollsBack, readyCleansUp, activatedCleansUp, rolledBackCleansUp, Phase, idle, ready, processing, activating, verifying, activated, rollingBack, rolledBack, cleaningUp, phaseNumber, isProcessing, Transfers, Entry, Work, State, state, Store, actions}
 use Rattle.model.specs.State as states
 use Rattle.model.specs.Calls.{Call, callNumber, transferStart, transferData, transferExit, deleteTransfer, process, work, cancel, revert, activate, rollback, finish, report, Answer, givenId, done, working, processed, cancelled, preActivationFailed, missingDependencies, verificationFailed, notAbleToRollback, notAbleToRevert, cleaningFailed, Reply, refused, accepted}
 use Rattle.model.specs.Calls as calls

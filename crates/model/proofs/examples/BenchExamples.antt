@@ -17,7 +17,7 @@ use Rattle.model.specs.State.{verifying}
 use Rattle.model.specs.Calls.{transferStart, process, finish, givenId}
 use Rattle.model.specs.Step.{Outcome}
 use Rattle.model.specs.Run.{Made}
-use Rattle.model.specs.Open.{computing}
+use Rattle.model.proofs.examples.Open.{computing}
 use Rattle.model.proofs.examples.Transcript.{packageText, version, cluster, need, loadedWith, _gives_, _isRefusedBy_, callsToTransfer, callsToProcess, callsToVerifying, after, Holds}
 
 abbrev loaded : Outcome

@@ -17,7 +17,7 @@ use Rattle.model.specs.Sound.{sound}
 use Rattle.model.specs.Step.{Outcome, outcome}
 use Rattle.model.specs.Load.{loadedState}
 use Rattle.model.specs.Run.{Made}
-use Rattle.model.specs.Open.{computing}
+use Rattle.model.proofs.examples.Open.{computing}
 use Rattle.model.proofs.examples.Transcript.{line, listText, packageText, version, cluster, need, loadedFrom, loadedWith, _gives_, _isRefusedBy_, callsToTransfer, callsToProcess, callsToVerifying, callsToFinish, after, Holds, Ends, journalOf}
 use Rattle.model.proofs.examples.BenchExamples.{installText, toReady, toVerifying}
 use Rattle.model.proofs.examples.Sessions.{loadedCluster, installedCluster, updatedCluster, updateText}

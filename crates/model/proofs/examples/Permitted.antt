@@ -7,7 +7,7 @@ use mathlib.Core.List.{List, [], _∷_}
 use Rattle.model.specs.State.{RollbackOrigin, CleanUpOrigin, Phase, idle, ready, processing, activating, verifying, activated, rollingBack, rolledBack, cleaningUp}
 use Rattle.model.specs.Calls.{Call, transferStart, transferData, transferExit, deleteTransfer, process, work, cancel, revert, activate, rollback, finish, report}
 use Rattle.model.specs.Permissions.{allowed}
-use Rattle.model.specs.Open.{computing}
+use Rattle.model.proofs.examples.Open.{computing}
 
 module _ (rollbackOrigin : RollbackOrigin) (cleanUpOrigin : CleanUpOrigin) where
   -- the nine states, the two that came from somewhere with any origin

@@ -5,7 +5,6 @@ use Prim.Native.Nat.{ℕ}
 use mathlib.Core.Path.{_≡_, refl}
 use mathlib.Core.Bool.{true}
 use mathlib.Core.List.{List, [], _∷_, _++_}
-use mathlib.Core.Option.{Option, none, some}
 use lib.ListN.{length, drop, replicate}
 use Rattle.base.specs.Quoted.{bytes}
 use Rattle.model.specs.State.{idle, State, state, Store}
@@ -14,8 +13,8 @@ use Rattle.model.specs.Areas.{overwritten}
 use Rattle.model.specs.Sound.{sound}
 use Rattle.model.specs.Step.{Outcome}
 use Rattle.model.specs.Run.{Made, Run}
-use Rattle.model.specs.Reading.{ReportReply, unsound, shortBuffer, written, reportRefusal, Report, packagesReport, clusterInfoReport, changeInfoReport, PackageRecord, packageRecords, clusterInfo, changeInfo, payload, payloadCheck, progress}
-use Rattle.model.specs.Open.{computing}
+use Rattle.model.specs.Reading.{ReadingReply, refusedBy, shortBuffer, given, Report, packagesReport, clusterInfoReport, changeInfoReport, PackageRecord, packageRecords, clusterInfo, changeInfo, payload, payloadCheck, progress}
+use Rattle.model.proofs.examples.Open.{computing}
 use Rattle.model.proofs.examples.Transcript.{line, listText, packageText, loadedFrom, _gives_, callsToTransfer, callsToProcess, callsToVerifying, after, Holds}
 use Rattle.model.proofs.examples.BenchExamples.{installText}
 use Rattle.model.proofs.examples.Sessions.{updateText}
@@ -62,7 +61,7 @@ toRolledBack = toVerifying ++ rollback gives done ∷ report true gives done ∷
 
 -- ---- what a report gives
 
-abbrev reportGives : {A : Type 0} → ReportReply → List A → Report A
+abbrev reportGives : {A : Type 0} → ReadingReply → List A → Report A
 reportGives reply buffer = record { reply = reply; buffer = buffer }
 
 abbrev packagesInto : Run → List PackageRecord → Report PackageRecord
@@ -88,7 +87,7 @@ payloadOf s store id = payloadGives (payload s store id) (payloadCheck s store i
 abbrev payloadIn : Run → ℕ → PayloadReport
 payloadIn r id = payloadOf (r .state) (r .store) id
 
-abbrev progressIn : Run → Option ℕ
+abbrev progressIn : Run → ReadingReply
 progressIn r = progress (r .state) (r .store)
 
 -- ---- the answers
@@ -117,12 +116,12 @@ fourRows = packageRow 1 91 91 2 ∷ packageRow 2 79 79 3 ∷ packageRow 3 65 65 
 
 pub record PackagesReports : Type 0 where
   -- "in id order", with room for exactly these; and with two behind them
-  pub exact : packagesInto (after loaded toEachState) (replicate 4 lentRow) ≡ reportGives (written 4) fourRows
-  pub behind : packagesInto (after loaded toEachState) (replicate 6 lentRow) ≡ reportGives (written 4) (fourRows ++ lentRow ∷ lentRow ∷ [])
+  pub exact : packagesInto (after loaded toEachState) (replicate 4 lentRow) ≡ reportGives (given 4) fourRows
+  pub behind : packagesInto (after loaded toEachState) (replicate 6 lentRow) ≡ reportGives (given 4) (fourRows ++ lentRow ∷ lentRow ∷ [])
   -- 19 "gives the length needed"
   pub short : packagesInto (after loaded toEachState) (replicate 3 lentRow) ≡ reportGives (shortBuffer 4) (replicate 3 lentRow)
   -- no package
-  pub empty : packagesInto (after loaded []) [] ≡ reportGives (written 0) []
+  pub empty : packagesInto (after loaded []) [] ≡ reportGives (given 0) []
 
 pub packagesReports : PackagesReports
 unfolding computing
@@ -138,12 +137,12 @@ abbrev stagedText : List ℕ
 stagedText = listText "20,1.0.5.0,," ++ line "30,1.0.0.0,20,1.0.4.0"
 
 pub record ClusterInfoReports : Type 0 where
-  pub exact : clusterInfoInto (after loaded []) (replicate 63 255) ≡ reportGives (written 63) loadedText
-  pub behind : clusterInfoInto (after loaded []) (replicate 65 255) ≡ reportGives (written 63) (loadedText ++ 255 ∷ 255 ∷ [])
+  pub exact : clusterInfoInto (after loaded []) (replicate 63 255) ≡ reportGives (given 63) loadedText
+  pub behind : clusterInfoInto (after loaded []) (replicate 65 255) ≡ reportGives (given 63) (loadedText ++ 255 ∷ 255 ∷ [])
   pub short : clusterInfoInto (after loaded []) (replicate 62 255) ≡ reportGives (shortBuffer 63) (replicate 62 255)
   -- the staged table, and the beginning one again
-  pub verifying : clusterInfoInto (after loaded toVerifying) (replicate 63 255) ≡ reportGives (written 63) stagedText
-  pub rolledBack : clusterInfoInto (after loaded toRolledBack) (replicate 63 255) ≡ reportGives (written 63) loadedText
+  pub verifying : clusterInfoInto (after loaded toVerifying) (replicate 63 255) ≡ reportGives (given 63) stagedText
+  pub rolledBack : clusterInfoInto (after loaded toRolledBack) (replicate 63 255) ≡ reportGives (given 63) loadedText
 
 pub clusterInfoReports : ClusterInfoReports
 unfolding computing
@@ -156,12 +155,12 @@ changesText = line "cluster,change" ++ (line "20,Updated" ++ (line "11,Removed" 
 
 pub record ChangeInfoReports : Type 0 where
   -- in the order in which they were processed, which is neither that of the ids nor that of the part numbers
-  pub exact : changeInfoInto (after loaded toVerifying) (replicate 46 255) ≡ reportGives (written 46) changesText
-  pub behind : changeInfoInto (after loaded toVerifying) (replicate 47 255) ≡ reportGives (written 46) (changesText ++ 255 ∷ [])
+  pub exact : changeInfoInto (after loaded toVerifying) (replicate 46 255) ≡ reportGives (given 46) changesText
+  pub behind : changeInfoInto (after loaded toVerifying) (replicate 47 255) ≡ reportGives (given 46) (changesText ++ 255 ∷ [])
   pub short : changeInfoInto (after loaded toVerifying) (replicate 45 255) ≡ reportGives (shortBuffer 46) (replicate 45 255)
   -- "with a names line always", also where only a package that is not yet in the list is processed
-  pub empty : changeInfoInto (after loaded []) (replicate 15 255) ≡ reportGives (written 15) (line "cluster,change")
-  pub notYet : changeInfoInto (after loaded toFirstByte) (replicate 15 255) ≡ reportGives (written 15) (line "cluster,change")
+  pub empty : changeInfoInto (after loaded []) (replicate 15 255) ≡ reportGives (given 15) (line "cluster,change")
+  pub notYet : changeInfoInto (after loaded toFirstByte) (replicate 15 255) ≡ reportGives (given 15) (line "cluster,change")
 
 pub changeInfoReports : ChangeInfoReports
 unfolding computing
@@ -215,12 +214,12 @@ payloadReports =
 -- ---- Progress
 
 pub record ProgressReports : Type 0 where
-  pub outside : progressIn (after loaded toTransferred) ≡ some 0
+  pub outside : progressIn (after loaded toTransferred) ≡ given 0
   -- 1 of 3 bytes; 4 of 5
-  pub firstByte : progressIn (after loaded toFirstByte) ≡ some 33
-  pub fourth : progressIn (after loaded toEachState) ≡ some 80
-  pub noPayload : progressIn (after loaded toNoPayload) ≡ some 100
-  pub afterwards : progressIn (after loaded toVerifying) ≡ some 0
+  pub firstByte : progressIn (after loaded toFirstByte) ≡ given 33
+  pub fourth : progressIn (after loaded toEachState) ≡ given 80
+  pub noPayload : progressIn (after loaded toNoPayload) ≡ given 100
+  pub afterwards : progressIn (after loaded toVerifying) ≡ given 0
 
 pub progressReports : ProgressReports
 unfolding computing
@@ -243,14 +242,13 @@ shortStore = drop 1 (after loaded toFirstByte .store)
 
 -- each reading call is refused by 1, before 19, and leaves the lent buffer
 pub record RefusedBy1 (s : State) (store : Store) : Type 0 where
-  pub packages : packagesReport s store (lentRow ∷ []) ≡ reportGives unsound (lentRow ∷ [])
-  pub clusters : clusterInfoReport s store (255 ∷ []) ≡ reportGives unsound (255 ∷ [])
-  pub changes : changeInfoReport s store (replicate 15 255) ≡ reportGives unsound (replicate 15 255)
+  pub packages : packagesReport s store (lentRow ∷ []) ≡ reportGives (refusedBy 1) (lentRow ∷ [])
+  pub clusters : clusterInfoReport s store (255 ∷ []) ≡ reportGives (refusedBy 1) (255 ∷ [])
+  pub changes : changeInfoReport s store (replicate 15 255) ≡ reportGives (refusedBy 1) (replicate 15 255)
   pub payload : payloadOf s store 1 ≡ payloadGives [] 1
-  pub progress : progress s store ≡ none
+  pub progress : progress s store ≡ refusedBy 1
 
 pub record BadStateReports : Type 0 where
-  pub number : reportRefusal unsound ≡ 1
   pub badState : RefusedBy1 idleAndProcessing (after loaded toFirstByte .store)
   pub badStore : RefusedBy1 firstByteState shortStore
 
@@ -258,7 +256,6 @@ pub badStateReports : BadStateReports
 unfolding computing
 badStateReports =
     record {
-      number = refl;
       badState = record { packages = refl; clusters = refl; changes = refl; payload = refl; progress = refl };
       badStore = record { packages = refl; clusters = refl; changes = refl; payload = refl; progress = refl };
     }

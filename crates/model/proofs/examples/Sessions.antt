@@ -16,7 +16,7 @@ use Rattle.model.specs.Step.{Outcome, outcome}
 use Rattle.model.specs.Load.{loadedState}
 use Rattle.model.specs.Run.{Made}
 use Rattle.model.specs.Journal.{Journal}
-use Rattle.model.specs.Open.{computing}
+use Rattle.model.proofs.examples.Open.{computing}
 use Rattle.model.proofs.examples.Transcript.{packageText, version, cluster, need, loadedWith, _gives_, callsToTransfer, after, Holds, journalOf}
 use Rattle.model.proofs.examples.BenchExamples.{installText}
 

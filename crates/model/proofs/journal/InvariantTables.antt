@@ -1,6 +1,6 @@
 -- The tables' part of the invariant: every accepted call keeps it. Assumes nothing.
 use mathlib.Core.Path.{_≡_, refl, sym, ap, ap₂, subst, _∙_}
-use mathlib.Core.Bool.{true, false, cond}
+use mathlib.Core.Bool.{true, false}
 use mathlib.Core.List.{List, [], _∷_, _++_}
 use Prim.Native.Nat.{ℕ}
 use Rattle.clusters.specs.Table.{Table, needsMet}
@@ -134,7 +134,7 @@ module _ (j : Journal) (session : Session) where
       → Told j (acceptedNoted (work n) answer j) (phaseAfter (session .listed)) session
   unfolding acceptedNoted workNoted
   leaves-told (by-cancel c) i = left-told (session .listed) (i .listing) i
-  leaves-told (by-sum c e) i = left-told (session .listed) (i .listing) i
+  leaves-told (by-sum c l e) i = left-told (session .listed) (i .listing) i
 
   ready-after : (listed : List Entry) (e : Entry) → phaseAfter (listed ++ e ∷ []) ≡ ready
   ready-after [] e = refl

@@ -14,7 +14,7 @@ use Rattle.text.specs.declared.version.Version.{Version}
 use Rattle.clusters.specs.declared.cluster.Need.{Need}
 use Rattle.clusters.specs.declared.cluster.Cluster.{Cluster as ClusterStruct}
 use Rattle.clusters.specs.declared.table.Table.{Table as TableStruct}
-use Rattle.clusters.specs.Cluster.{Cluster, needsMost, clusterWithin}
+use Rattle.clusters.specs.Cluster.{Cluster, cluster, withNeed, needsMost, clusterWithin}
 use Rattle.clusters.specs.Table.{Table, tableWithin, risingAbove, clustersMost}
 use Rattle.clusters.specs.View.{noNeed, noCluster, viewCluster, viewTable}
 use Rattle.clusters.specs.Exact as exact
@@ -24,18 +24,14 @@ use Rattle.clusters.proofs.Along.{view-few, table-at, table-length, tab
 
 -- ---- clusters
 
--- a plain cluster with one need more
-abbrev pub moreNeeds : Cluster → Need → Cluster
-moreNeeds c n = record { part = c .part; version = c .version; needs = c .needs ++ n ∷ [] }
-
-pub view-new-cluster : (part : ℕ) (version : Version) → viewCluster (exact.newCluster part version) ≡ record { part = part; version = version; needs = [] }
+pub view-new-cluster : (part : ℕ) (version : Version) → viewCluster (exact.newCluster part version) ≡ cluster part version []
 unfolding exact.newCluster
 view-new-cluster part version = refl
 
-pub view-with-need : (c : ClusterStruct) (n : Need) → c .«need_count» < needsMost → viewCluster (exact.withNeed c n) ≡ moreNeeds (viewCluster c) n
+pub view-with-need : (c : ClusterStruct) (n : Need) → c .«need_count» < needsMost → viewCluster (exact.withNeed c n) ≡ withNeed (viewCluster c) n
 unfolding exact.withNeed
 view-with-need c n h =
-    ap {B = Cluster} (λ (needs : List Need). record { part = c .part; version = c .version; needs = needs })
+    ap (cluster (c .part) (c .version))
     (counted-few needsMost (c .«need_count» + 1) noNeed (exact.putAt (c .«need_count») n (c .needs)) (omega arith)
     ∙ first-put (c .«need_count») n (c .needs)
     ∙ ap (λ (l : List Need). l ++ n ∷ []) (sym (counted-few needsMost (c .«need_count») noNeed (c .needs) (omega arith))))
@@ -94,7 +90,7 @@ module _ (t : TableStruct) (some-there : 1 ≤ t .count) (few : t .count ≤ clu
       ∙ map-append viewCluster (take m (t .clusters)) (getD (t .clusters) m noCluster ∷ [])
 
   pub view-with-need-at-last : (n : Need) (front : Table) (c : Cluster) → viewTable t ≡ front ++ c ∷ [] → getD (t .clusters) (t .count - 1) noCluster .«need_count» < needsMost
-      → viewTable (exact.withNeedAtLast t n) ≡ front ++ moreNeeds c n ∷ []
+      → viewTable (exact.withNeedAtLast t n) ≡ front ++ withNeed c n ∷ []
   unfolding exact.withNeedAtLast
   view-with-need-at-last n front c e room =
       let m = t .count - 1 in
@@ -104,4 +100,4 @@ module _ (t : TableStruct) (some-there : 1 ≤ t .count) (few : t .count ≤ clu
       let same = snoc-same (map viewCluster (take m (t .clusters))) front (viewCluster old) c (sym last-cluster ∙ e) in
       ap (map viewCluster) (counted-few clustersMost (t .count) noCluster (exact.putAt m new (t .clusters)) few ∙ ap (λ (k : ℕ). take k (exact.putAt m new (t .clusters))) one ∙ first-put m new (t .clusters))
       ∙ map-append viewCluster (take m (t .clusters)) (new ∷ [])
-      ∙ ap₂ (λ (l : Table) (k : Cluster). l ++ k ∷ []) (same .0) (view-with-need old n room ∙ ap (λ (k : Cluster). moreNeeds k n) (same .1))
+      ∙ ap₂ (λ (l : Table) (k : Cluster). l ++ k ∷ []) (same .0) (view-with-need old n room ∙ ap (λ (k : Cluster). withNeed k n) (same .1))

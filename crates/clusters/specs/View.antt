@@ -2,24 +2,25 @@
 use mathlib.Core.List.{[], map}
 use Rattle.base.specs.Counted.{counted}
 use Rattle.text.specs.declared.version.Version.{Version}
+use Rattle.text.specs.Version.{version}
 use Rattle.clusters.specs.declared.cluster.Need.{Need}
 use Rattle.clusters.specs.declared.cluster.Cluster.{Cluster as ClusterStruct}
 use Rattle.clusters.specs.declared.table.Table.{Table as TableStruct}
-use Rattle.clusters.specs.Cluster.{Cluster, needsMost}
+use Rattle.clusters.specs.Cluster.{Cluster, cluster, need, needsMost}
 use Rattle.clusters.specs.Table.{Table, clustersMost}
 
 -- what stands in an unused place
 abbrev pub noVersion : Version
-noVersion = record { first = 0; second = 0; third = 0; fourth = 0 }
+noVersion = version 0 0 0 0
 
 abbrev pub noNeed : Need
-noNeed = record { part = 0; least = noVersion }
+noNeed = need 0 noVersion
 
 abbrev pub noCluster : ClusterStruct
 noCluster = record { part = 0; version = noVersion; needs = []; «need_count» = 0 }
 
 abbrev pub viewCluster : ClusterStruct → Cluster
-viewCluster c = record { part = c .part; version = c .version; needs = counted needsMost noNeed (c .«need_count») (c .needs) }
+viewCluster c = cluster (c .part) (c .version) (counted needsMost noNeed (c .«need_count») (c .needs))
 
 abbrev pub viewTable : TableStruct → Table
 viewTable t = map viewCluster (counted clustersMost noCluster (t .count) (t .clusters))

@@ -7,13 +7,9 @@ use lib.Dec.{eqb, leb, ltb}
 use lib.ListN.{length}
 use Rattle.base.specs.Refusals.{Refusal, refuse_when_}
 use Rattle.checksum.specs.Sum.{sumsWithin}
-<<<<<<< HEAD
-use Rattle.clusters.specs.Table.{Table, tableWithin}
-use Rattle.actions.specs.Refusals.{passes, passInTurn, passes, passInTurn}
-use Rattle.actions.specs.Action.{actionWithin, actionsWithin, actionWithin, actionsWithin}
-=======
 use Rattle.clusters.specs.Table.{tableWithin}
->>>>>>> 5bbf3b590a9b6eb42bc0b683e2cc7e3d8944cb76
+use Rattle.actions.specs.Action.{actionWithin, actionsWithin}
+use Rattle.actions.specs.Refusals.{passes, passInTurn}
 use Rattle.model.specs.State.{Package, Phase, isIdle, isProcessing, Transfers, Entry, Session, Work, State, Store, actions}
 use Rattle.model.specs.Areas.{declared, packageOf, isTransferring, isBeingProcessed, isProcessed, countIn, processingId}
 use Rattle.model.specs.Tables.{staged}

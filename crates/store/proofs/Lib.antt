@@ -1,0 +1,4 @@
+pub mod PositionLaws
+pub mod Loops
+pub mod Parts
+pub mod Examples

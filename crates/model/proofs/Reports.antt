@@ -81,6 +81,10 @@ module _ (s : State) (store : Store) (needed room : ℕ) (h : sound s store ≡ 
   unfolding reportReply furtherReportRefusals firstRefusal
   report-short short = rw (report-decided s store needed room h, lt-ltb room needed short)
 
+  -- "19. ShortBuffer"
+  pub report-short-number : room < needed → replyNumber (reportReply s store needed room) ≡ 19
+  report-short-number short = ap replyNumber (report-short short)
+
   pub report-fits : needed ≤ room → reportReply s store needed room ≡ given needed
   unfolding reportReply furtherReportRefusals firstRefusal
   report-fits fits = rw (report-decided s store needed room h, le-ltb room needed fits)

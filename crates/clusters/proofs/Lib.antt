@@ -4,5 +4,8 @@ pub mod Limits
 pub mod Finding
 pub mod Equal
 pub mod Placing
+pub mod ColumnLaws
 pub mod Views
 pub mod Structs
+pub mod Cases
+pub mod Examples

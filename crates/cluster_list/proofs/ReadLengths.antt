@@ -33,7 +33,7 @@ use Rattle.clusters.proofs.Limits.{rising-says, few-clusters, rising-clusters, 
 use Rattle.cluster_list.specs.declared.cells.NeedRead.{NeedRead}
 use Rattle.cluster_list.specs.declared.cells.NeedRead.the-variants as need
 use Rattle.cluster_list.specs.Cells.{partField, needOf, needFields}
-use Rattle.cluster_list.specs.Read.{lastPart, clusterAdded, needAdded, needLine, clusterBegun, clusterLine, valueLine, valueLines, readList}
+use Rattle.cluster_list.specs.Read.{lastPart, clusterAdded, needAdded, needLine, clusterBegun, clusterLine, valueLine, valueLines, readList, readListMost}
 use Rattle.cluster_list.proofs.ThenLaws.{then-cases-need}
 use Rattle.cluster_list.proofs.Within.{then-cases-some, readList-within}
 use Rattle.cluster_list.proofs.LineLength.{sorted, Columns, ColumnsOf, columns-of, rowLength, line-bytes}
@@ -202,7 +202,7 @@ list-read s =
     subst (λ (at : ℕ). Read (length s) at [] (valueLines (length s) columns s (next .at) [])) end (lines-read columns (names .order) (length s) s (next .at) [])
 
 -- 28 + 37 × 5 × 64
-pub read-most : (s : List ℕ) (t : Table) → readList s ≡ some t → length s ≤ 11868
+pub read-most : (s : List ℕ) (t : Table) → readList s ≡ some t → length s ≤ readListMost
 read-most s t e =
     let read : Read (length s) 28 [] (some t) = subst (Read (length s) 28 []) e (list-read s) in
     let within : tableWithin t ≡ true = readList-within s t e in

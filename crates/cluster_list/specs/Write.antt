@@ -38,3 +38,7 @@ clustersText (c ∷ t) = clusterLines c ++ clustersText t
 -- a table as a list
 unfoldable pub writeList : Table → List ℕ
 writeList t = namesLine ++ clustersText t
+
+-- how many bytes the longest list has that is written: the names line of 28, and 64 clusters of 181 (proofs/Longest.antt)
+abbrev pub writtenListMost : ℕ
+writtenListMost = 11612

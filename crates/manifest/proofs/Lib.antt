@@ -1,5 +1,4 @@
-pub mod ThenLaws
-pub mod HeadingLaws
+pub mod FirstCluster
 pub mod PackageLaws
 pub mod Within
 pub mod Payload

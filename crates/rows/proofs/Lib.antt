@@ -1,4 +1,5 @@
 pub mod FieldLaws
+pub mod Empty
 pub mod LineLaws
 pub mod ColumnLaws
 pub mod ThenLaws

@@ -1,9 +1,9 @@
--- `manifest::heading::payload_heading` meets its contract, one `let .. else` after the other. Assumes nothing.
+-- `package_heading::heading::payload_heading` meets its contract, one `let .. else` after the other. Assumes nothing.
 use borrow.Author.Needs.{needs}
 use Rattle.text.proofs.ThenLaws.{chain}
-use Rattle.manifest.proofs.ThenLaws.{in-fields}
-use Rattle.manifest.proofs.heading.payload_heading.Statement.{statement}
-use Rattle.manifest.proofs.heading.payload_heading.Tie as tie
+use Rattle.package_heading.proofs.ThenLaws.{in-fields}
+use Rattle.package_heading.proofs.heading.payload_heading.Statement.{statement}
+use Rattle.package_heading.proofs.heading.payload_heading.Tie as tie
 
 cell-at-requires : tie.Need-cell-at-requires
 cell-at-requires c κs = search needs

@@ -1,11 +1,11 @@
--- `manifest::heading::cluster_heading` meets its contract: a version, then the need, filled or empty. Assumes nothing.
+-- `package_heading::heading::cluster_heading` meets its contract: a version, then the need, filled or empty. Assumes nothing.
 use borrow.Author.Needs.{needs}
 use Rattle.text.proofs.ThenLaws.{chain}
 use Rattle.cluster_list.proofs.ThenLaws.{need-chain}
-use Rattle.manifest.specs.Package.{clusterHeading}
-use Rattle.manifest.proofs.ThenLaws.{in-fields}
-use Rattle.manifest.proofs.heading.cluster_heading.Statement.{statement}
-use Rattle.manifest.proofs.heading.cluster_heading.Tie as tie
+use Rattle.package_heading.specs.Heading.{clusterHeading}
+use Rattle.package_heading.proofs.ThenLaws.{in-fields}
+use Rattle.package_heading.proofs.heading.cluster_heading.Statement.{statement}
+use Rattle.package_heading.proofs.heading.cluster_heading.Tie as tie
 
 cell-at-requires : tie.Need-cell-at-requires
 cell-at-requires c κs = search needs

@@ -1,25 +1,21 @@
 -- A `let .. else` over an action word, and a definition that goes on by `andThenSome`: `search change-chain` at each return, with
 -- the chains of the crates below. x is a call's result, and e what the call ensures. Also what a reader finds in a field that a
--- call gave, and whether that field is empty. Assumes nothing.
-use Prim.Native.Nat.{ℕ, _≤_, _<_}
-use mathlib.Core.Path.{_≡_, sym}
-use mathlib.Core.Bool.{true, false}
+-- call gave. Assumes nothing.
+use Prim.Native.Nat.{ℕ}
+use mathlib.Core.Path.{_≡_}
 use mathlib.Core.List.{List}
 use mathlib.Core.Option.{Option}
-use lib.ListN.{length}
 use Rattle.text.specs.declared.number.Number.{Number}
 use Rattle.text.specs.declared.version.VersionRead.{VersionRead}
 use Rattle.text.specs.Number.{wholeNumber}
 use Rattle.text.specs.Version.{wholeVersion}
-use Rattle.rows.specs.Field.{isEmpty}
 use Rattle.clusters.specs.declared.action.Change.{Change}
 use Rattle.cluster_list.specs.Cells.{partField}
 use Rattle.cluster_list.specs.Read.{andThenSome}
-use Rattle.cluster_list.proofs.ThenLaws.{no-byte, some-byte}
-use Rattle.manifest.specs.declared.change.ChangeRead.{ChangeRead}
-use Rattle.manifest.specs.declared.change.ChangeRead.the-variants as change-read
-use Rattle.manifest.specs.Package.{changeOf}
-use Rattle.manifest.specs.Found.{changeFound}
+use Rattle.package_heading.specs.declared.change.ChangeRead.{ChangeRead}
+use Rattle.package_heading.specs.declared.change.ChangeRead.the-variants as change-read
+use Rattle.package_heading.specs.Heading.{changeOf}
+use Rattle.package_heading.specs.Found.{changeFound}
 
 -- ---- an action word
 
@@ -48,13 +44,3 @@ module _ (w v : List ℕ) (here : w ≡ v) where
   change-in x e = rw here at e
 
 pub ruleset in-fields = (number-in, part-in, version-in, change-in)
-
--- whether it is empty
-module _ (w v : List ℕ) (here : w ≡ v) where
-  pub is-empty : length w < 1 → true ≡ isEmpty v
-  is-empty h = sym (rw here at (no-byte w h))
-
-  pub is-filled : 1 ≤ length w → false ≡ isEmpty v
-  is-filled h = sym (rw here at (some-byte w h))
-
-pub ruleset field-tests = (is-empty, is-filled)

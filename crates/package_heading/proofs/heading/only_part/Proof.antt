@@ -1,8 +1,8 @@
--- `manifest::heading::only_part` meets its contract: one field after the other. Assumes nothing.
+-- `package_heading::heading::only_part` meets its contract: one field after the other. Assumes nothing.
 use borrow.Author.Needs.{needs}
 use Rattle.base.proofs.Ladder.{told-ladder}
-use Rattle.manifest.proofs.heading.only_part.Statement.{statement}
-use Rattle.manifest.proofs.heading.only_part.Tie as tie
+use Rattle.package_heading.proofs.heading.only_part.Statement.{statement}
+use Rattle.package_heading.proofs.heading.only_part.Tie as tie
 
 cell-is-empty-requires : tie.Need-cell-is-empty-requires
 cell-is-empty-requires c κs = search needs

@@ -1,10 +1,10 @@
--- `manifest::heading::heading_at` meets its contract, one `let .. else` after the other. Assumes nothing.
+-- `package_heading::heading::heading_at` meets its contract, one `let .. else` after the other. Assumes nothing.
 use borrow.Author.Needs.{needs}
 use Rattle.text.proofs.ThenLaws.{chain}
-use Rattle.manifest.specs.Package.{firstLine}
-use Rattle.manifest.proofs.ThenLaws.{change-chain, in-fields}
-use Rattle.manifest.proofs.heading.heading_at.Statement.{statement}
-use Rattle.manifest.proofs.heading.heading_at.Tie as tie
+use Rattle.package_heading.specs.Heading.{firstLine}
+use Rattle.package_heading.proofs.ThenLaws.{change-chain, in-fields}
+use Rattle.package_heading.proofs.heading.heading_at.Statement.{statement}
+use Rattle.package_heading.proofs.heading.heading_at.Tie as tie
 
 cell-at-requires : tie.Need-cell-at-requires
 cell-at-requires c κs = search needs

@@ -1,7 +1,7 @@
 // The action word of a package.
 ghost use mathlib.Core.Path.{_≡_};
-ghost use Rattle.manifest.specs.Package.{changeOf, furtherMost};
-ghost use Rattle.manifest.specs.Found.{changeFound};
+ghost use Rattle.package_heading.specs.Heading.{changeOf};
+ghost use Rattle.package_heading.specs.Found.{changeFound};
 use clusters::action::Change;
 use text::word::is_word;
 
@@ -25,15 +25,4 @@ pub fn change_of(word: &[u8]) -> ChangeRead
         return ChangeRead::Value(Change::Remove);
     }
     ChangeRead::IllFormed
-}
-
-// How many value lines may follow the first.
-pub fn further_most(change: Change) -> usize
-    ensures { λ r. ⌜ r ≡ furtherMost change ⌝ }
-{
-    match change {
-        Change::Install => 3,
-        Change::Update => 3,
-        Change::Remove => 0,
-    }
 }

@@ -1,9 +1,9 @@
--- `manifest::change::change_of` meets its contract: one word after the other. Assumes nothing.
+-- `package_heading::change::change_of` meets its contract: one word after the other. Assumes nothing.
 use borrow.Author.Needs.{needs}
 use Rattle.base.proofs.Ladder.{told-ladder}
-use Rattle.manifest.specs.Package.{changeOf}
-use Rattle.manifest.proofs.change.change_of.Statement.{statement}
-use Rattle.manifest.proofs.change.change_of.Tie as tie
+use Rattle.package_heading.specs.Heading.{changeOf}
+use Rattle.package_heading.proofs.change.change_of.Statement.{statement}
+use Rattle.package_heading.proofs.change.change_of.Tie as tie
 
 slice-aggregate-is-word : tie.Need-slice-aggregate-is-word
 slice-aggregate-is-word c = search needs

@@ -1,8 +1,8 @@
--- `manifest::heading::heading_of` meets its contract: the reader for each change. Assumes nothing.
+-- `package_heading::heading::heading_of` meets its contract: the reader for each change. Assumes nothing.
 use borrow.Author.Needs.{needs}
-use Rattle.manifest.proofs.HeadingLaws.{by-change}
-use Rattle.manifest.proofs.heading.heading_of.Statement.{statement}
-use Rattle.manifest.proofs.heading.heading_of.Tie as tie
+use Rattle.package_heading.proofs.HeadingLaws.{by-change}
+use Rattle.package_heading.proofs.heading.heading_of.Statement.{statement}
+use Rattle.package_heading.proofs.heading.heading_of.Tie as tie
 
 enum-told : tie.Need-enum-told
 enum-told c = search needs

@@ -1,0 +1,3 @@
+pub mod ThenLaws
+pub mod HeadingLaws
+pub mod Within

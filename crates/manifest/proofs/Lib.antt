@@ -2,3 +2,4 @@ pub mod FirstCluster
 pub mod PackageLaws
 pub mod Within
 pub mod Payload
+pub mod Examples

@@ -11,3 +11,4 @@ pub mod NamesLine
 pub mod Totals
 pub mod LineBytes
 pub mod NamesOnce
+pub mod Examples

@@ -11,7 +11,7 @@ only-part-requires c κs = search needs
 
 returns : tie.Need-returns
 unfolding removeHeading
-returns c = search (told-ladder, both, same-heading) depth 9
+returns c = search (told-ladder, both) depth 9
 
 returns-2 : tie.Need-returns-2
 unfolding removeHeading
@@ -19,7 +19,7 @@ returns-2 c = search (told-ladder, both, same-heading) depth 9
 
 returns-3 : tie.Need-returns-3
 unfolding removeHeading
-returns-3 c = search (told-ladder, both, same-heading) depth 9
+returns-3 c = search (told-ladder, both) depth 9
 
 pub remove-heading-spec : {M : Type 1} → statement M
 remove-heading-spec = tie.close (tie.spec only-part-requires returns returns-2 returns-3)

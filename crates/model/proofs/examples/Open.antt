@@ -17,7 +17,8 @@ use Rattle.actions.specs.Refusals.{touched, clusterPresent, clusterAbsent, oldV
 use Rattle.cluster_list.specs.Cells.{partField, needOf}
 use Rattle.cluster_list.specs.Read.{lastPart, clusterAdded, needAdded, needLine, clusterBegun, clusterLine, valueLine, valueLines, readList}
 use Rattle.cluster_list.specs.Write.{needLineText, needLinesText, clusterLines, clustersText, writeList}
-use Rattle.manifest.specs.Package.{changeOf, removeHeading, clusterHeading, firstLine, onlyNeed, furtherLines, packageWith, readPackage}
+use Rattle.package_heading.specs.Heading.{changeOf, removeHeading, clusterHeading, firstLine}
+use Rattle.manifest.specs.Package.{onlyNeed, furtherLines, packageWith, readPackage}
 use Rattle.model.specs.Permissions.{allowed}
 use Rattle.model.specs.Areas.{declared, free, find, packageOf, areaStart, areaOf, overwritten, blockPut, remaining, remainingAreas, deleted, changed, countIn, processingId}
 use Rattle.model.specs.Tables.{staged, runningIn, running}

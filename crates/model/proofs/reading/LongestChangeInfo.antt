@@ -6,7 +6,7 @@ use mathlib.Core.Bool.{true}
 use mathlib.Core.List.{List, [], _∷_, map}
 use mathlib.Core.Option.{none}
 use lib.ListN.{length, replicate}
-use Rattle.clusters.specs.Cluster.{Cluster}
+use Rattle.clusters.specs.Cluster.{Cluster, cluster}
 use Rattle.actions.specs.Action.{remove}
 use Rattle.clusters.specs.View.{noVersion}
 use Rattle.model.specs.State.{processed, Package, ready, Entry, State, state, Store}
@@ -28,7 +28,7 @@ abbrev partOf : ℕ → ℕ
 partOf id = 1000000000 + id
 
 abbrev clusterOf : ℕ → Cluster
-clusterOf id = record { part = partOf id; version = noVersion; needs = [] }
+clusterOf id = cluster (partOf id) noVersion []
 
 -- a package of one byte, received in one block and processed
 abbrev processedPackage : ℕ → Package

@@ -6,26 +6,26 @@ use mathlib.Core.Path.{_≡_, refl}
 use mathlib.Core.Bool.{true}
 use mathlib.Core.List.{List, [], _∷_, _++_}
 use mathlib.Core.Option.{Option, none, some}
-use lib.ListN.{length, drop, replicate}
+use lib.ListN.{drop, replicate}
 use Rattle.base.specs.Quoted.{bytes}
 use Rattle.model.specs.State.{idle, State, state, Store}
 use Rattle.model.specs.Calls.{transferStart, transferData, process, work, rollback, report, givenId, done, working}
 use Rattle.model.specs.Areas.{overwritten}
-use Rattle.model.specs.Sound.{sound}
-use Rattle.model.specs.Step.{Outcome}
 use Rattle.model.specs.Run.{Made, Run}
-use Rattle.model.specs.Reading.{ReportReply, unsound, shortBuffer, written, reportRefusal, Report, packagesReport, clusterInfoReport, changeInfoReport, PackageRecord, packageRecords, clusterInfo, changeInfo, payload, payloadCheck, progress}
+use Rattle.model.specs.Reading.{ReportReply, unsound, shortBuffer, written, reportRefusal, Report, packagesReport, clusterInfoReport, changeInfoReport, PackageRecord, payload, payloadCheck, progress}
 use Rattle.model.specs.Open.{computing}
-use Rattle.model.proofs.examples.Transcript.{line, listText, packageText, loadedFrom, _gives_, callsToTransfer, callsToProcess, callsToVerifying, after, Holds}
+use Rattle.model.proofs.examples.Transcript.{line, listText, packageText, Start, loadedFrom, _gives_, callsToTransfer, callsToProcess, callsToVerifying, after, from_calls_, Hold}
 use Rattle.model.proofs.examples.BenchExamples.{installText}
-use Rattle.model.proofs.examples.Sessions.{updateText}
 
 -- ---- the calls
 
 -- the list that document 01 gives to `clist`, and a store as long as the packages below together
-abbrev loaded : Outcome
+abbrev loaded : Start
 loaded =
     loadedFrom (line "version,cluster,least,needs" ++ (line "1.0.0.3,11,1.0.0.0,20" ++ line "1.0.4.0,20,,")) 1 244
+
+abbrev updateText : List ℕ
+updateText = packageText "update,20,1.0.5.0,3,19495,," "abc"
 
 abbrev removeText : List ℕ
 removeText = packageText "remove,11,,0,0,," ""
@@ -93,15 +93,14 @@ progressIn r = progress (r .state) (r .store)
 
 -- ---- the answers
 
-pub record Transcripts : Type 0 where
-  pub firstByte : Holds loaded toFirstByte
-  pub eachState : Holds loaded toEachState
-  pub noPayload : Holds loaded toNoPayload
-  pub rolledBack : Holds loaded toRolledBack
-
-pub transcripts : Transcripts
+pub transcripts : Hold
+    (from loaded calls toFirstByte
+    ∷ from loaded calls toEachState
+    ∷ from loaded calls toNoPayload
+    ∷ from loaded calls toRolledBack
+    ∷ [])
 unfolding computing
-transcripts = record { firstByte = refl; eachState = refl; noPayload = refl; rolledBack = refl }
+transcripts = refl
 
 -- ---- Packages
 

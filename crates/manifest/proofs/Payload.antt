@@ -3,11 +3,12 @@
 -- read. Assumes nothing.
 use Prim.Native.Nat.{ℕ, _+_}
 use mathlib.Core.Path.{_≡_, refl, subst}
-use mathlib.Core.List.{List}
+use mathlib.Core.List.{List, [], _∷_, map}
 use mathlib.Core.Option.{some}
 use lib.Dec.{eqb}
 use lib.ListN.{length, drop}
 use borrow.Author.Tests.{eq-eqb, ne-eqb, eqb-false}
+use Rattle.base.specs.Refusals.{firstRefusal}
 use Rattle.base.proofs.Tests.{cond-cases}
 use Rattle.text.specs.declared.cursor.Cursor.{Cursor}
 use Rattle.rows.specs.declared.columns.PackageColumns.{PackageColumns}
@@ -93,9 +94,12 @@ answer-says illFormed = refl
 answer-says inconsistent = refl
 answer-says (consistent m) = (m, refl)
 
--- and its number is that of the refusal
+-- and its number is that of the refusal: 9, 10, or 0 for neither
 pub answer-number : (p : PackageRead) → answerNumber (packageRead p .answer) ≡ refusalNumber p
-unfolding packageRead
+unfolding packageRead firstRefusal
 answer-number illFormed = refl
 answer-number inconsistent = refl
 answer-number (consistent m) = refl
+
+pub answer-numbers : map answerNumber (answer.IllFormed ∷ answer.Inconsistent ∷ answer.Consistent ∷ []) ≡ 9 ∷ 10 ∷ 0 ∷ []
+answer-numbers = refl

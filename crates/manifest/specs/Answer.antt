@@ -1,5 +1,6 @@
 -- The answer of the reader in the code.
 use Prim.Native.Nat.{ℕ}
+use Rattle.base.specs.Refusals.{firstRefusal, numberOrZero}
 use Rattle.clusters.specs.declared.action.Action.{Action as ActionStruct}
 use Rattle.clusters.specs.declared.action.Change.the-variants.{Install}
 use Rattle.clusters.specs.Struct.{structAction, clearedCluster}
@@ -7,13 +8,11 @@ use Rattle.manifest.specs.declared.package.PackageAnswer.{PackageAnswer}
 use Rattle.manifest.specs.declared.package.PackageAnswer.the-variants.{Consistent, IllFormed, Inconsistent}
 use Rattle.manifest.specs.declared.package.PackageRead.{PackageRead as PackageReadStruct}
 use Rattle.manifest.specs.Package.{PackageRead, illFormed, inconsistent, consistent}
+use Rattle.manifest.specs.Refused.{packageRefusals}
 
--- "9. InvalidManifest .. text before the payload ill-formed", "10. PackageInconsistent .. bytes behind the empty line aren't
--- exactly the payload count", and 0 for neither
+-- 9 or 10, and 0 for neither
 abbrev pub refusalNumber : PackageRead → ℕ
-refusalNumber illFormed = 9
-refusalNumber inconsistent = 10
-refusalNumber (consistent m) = 0
+refusalNumber read = numberOrZero (firstRefusal (packageRefusals read))
 
 -- the numbers of the code's answers
 abbrev pub answerNumber : PackageAnswer → ℕ

@@ -14,7 +14,7 @@ use Rattle.clusters.specs.Action.{applyAll}
 use Rattle.cluster_list.specs.Read.{readList}
 use Rattle.manifest.specs.Package.{Manifest, consistent, readPackage}
 use Rattle.model.specs.State.{Package, isIdle, isProcessing, State, Store, actions}
-use Rattle.model.specs.Calls.{Call, done, refused, accepted}
+use Rattle.model.specs.Calls.{Call, Answer, done, refused, accepted}
 use Rattle.model.specs.Areas.{declared, free, find, areaOf}
 use Rattle.model.specs.Tables.{running}
 use Rattle.model.specs.Sound.{storeMost, idMost, sound}
@@ -24,10 +24,13 @@ use Rattle.model.specs.Run.{Made, Run, run, acceptedOnly, callsOf}
 use Rattle.model.specs.Journal.{Journal, opened, journal}
 use Rattle.model.specs.Reading.{clusterInfo}
 use Rattle.model.specs.Demand3.{Undone, TableAtReturn, sessionGoesOn, LastSession, mayWriteStore, AgreesWith, Demand3}
+use Rattle.model.proofs.soundness.SoundFacts.{sound-by-length}
 use Rattle.model.proofs.soundness.KeptSound.{step-sound}
 use Rattle.model.proofs.soundness.LoadSound.{load-refused, load-gives-back}
 use Rattle.model.proofs.soundness.RunningWithin.{info-loads}
+use Rattle.model.proofs.transitions.Transitions.{Accepted}
 use Rattle.model.proofs.transitions.Refused as refusing
+use Rattle.model.proofs.transitions.NoOtherRefusal.{accepted-exactly}
 use Rattle.model.proofs.journal.Lists.{state-last, store-last}
 use Rattle.model.proofs.journal.Demand3 as every
 use Rattle.model.proofs.journal.SessionTable.{last-session}
@@ -38,11 +41,17 @@ pub refused-changes-nothing : (s : State) (store : Store) (call : Call) (number 
     → (step s store call .state ≡ s) × (step s store call .store ≡ store)
 refused-changes-nothing = refusing.refused-changes-nothing
 
--- "Checked in this order ..; a refusal is the number alone .. and happens under no other condition": a call is refused with a number
--- exactly when that is the number of the first refusal that applies
+-- "Checked in this order ..; a refusal is the number alone": a call is refused with a number exactly when that is the number of the
+-- first refusal that applies
 pub refused-by-the-first : (s : State) (store : Store) (call : Call) (number : ℕ)
     → (step s store call .reply ≡ refused number) ↔ (firstRefusal (refusals s store call) ≡ some number)
 refused-by-the-first = refusing.refused-by-the-first
+
+-- "and happens under no other condition": on a sound state a call is accepted, with its answer, state and store, exactly in the ways
+-- that `Accepted` lists, each with what document 01 demands for it and nothing else
+pub accepted-exactly-so : (s : State) (store : Store) (call : Call) (answer : Answer) (s′ : State) (store′ : Store)
+    → sound s store ≡ true → (step s store call ≡ outcome answer s′ store′) ↔ Accepted s store call (outcome answer s′ store′)
+accepted-exactly-so = accepted-exactly
 
 -- "BadLoad: Load with ill-formed list, id 0 or too long a store.", and Load is refused by no other number
 pub load-refused-by-20 : (given : State) (list : List ℕ) (first : ℕ) (lent : Store) (number : ℕ)
@@ -54,6 +63,10 @@ pub refused-load-changes-nothing : (given : State) (list : List ℕ) (first : �
     → load given list first lent .reply ≡ refused number
     → (load given list first lent .state ≡ given) × (load given list first lent .store ≡ lent)
 refused-load-changes-nothing = load-gives-back
+
+-- "The store's bytes play no part in it.": soundness sees the store's length alone
+pub soundness-by-length : (s : State) (a b : Store) → length a ≡ length b → sound s a ≡ sound s b
+soundness-by-length = sound-by-length
 
 -- every call on a sound state gives a sound state, whatever bytes the store holds
 pub soundness-is-kept : (s : State) (store : Store) (call : Call) → sound s store ≡ true

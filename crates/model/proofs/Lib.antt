@@ -5,4 +5,5 @@ pub mod transitions
 pub mod journal
 pub mod examples
 pub mod Reports
+pub mod LongestChangeInfo
 pub mod Claims

@@ -1,4 +1,4 @@
--- What the reading calls give. A report has one of three replies; it keeps the lent buffer's length, writes its content at the
+-- What the reading calls give. On a sound state their refusals behind 1 decide. A report keeps the lent buffer's length, writes its content at the
 -- front and nothing else, and writes nothing where it is refused. How long each report is at most, for a sound state. Payload's
 -- bytes are exactly the count and end the area. Progress is the floor, at most 100, and 0 outside Processing. Assumes nothing.
 use Prim.Native.Nat.{ℕ, _+_, _*_, _≤_, _<_}
@@ -11,10 +11,10 @@ use native.Mathlib.Omega.{arith}
 use lib.Dec.{eqb, leb, ltb}
 use lib.ListN.{length, take, drop, length-append, length-drop, length-map, take-append-drop}
 use lib.Seq.{take-all, take-append-seam, drop-append-seam}
-use borrow.Author.Tests.{ltb-false, leb-true, lt-ltb, le-ltb, eqb-true, not-false}
+use borrow.Author.Tests.{ltb-true, ltb-false, leb-true, lt-ltb, le-ltb, eqb-true, not-false}
 use Rattle.base.specs.Quoted.{bytes}
 use Rattle.base.specs.Refusals.{firstRefusal, numberOrZero}
-use Rattle.base.proofs.Tests.{cond-cases, and-left, and-right, clash}
+use Rattle.base.proofs.Tests.{bool-cases, cond-cases, and-left, and-right, clash}
 use Rattle.text.specs.Digits.{digits}
 use Rattle.text.proofs.DigitLaws.{ten-digits}
 use Rattle.rows.specs.Line.{lineText}
@@ -28,56 +28,91 @@ use Rattle.model.specs.Areas.{find, areaOf, isProcessed, countIn}
 use Rattle.model.specs.Tables.{running}
 use Rattle.model.specs.Sound.{packagesMost, keptSound, sound}
 use Rattle.model.specs.Step.{named, areaRead, manifestOf}
-use Rattle.model.specs.Reading.{ReportReply, unsound, shortBuffer, written, reportRefusal, reportReply, reportBuffer, packageRecords, clusterInfo, changeWord, changeLines, changeInfo, payloadRefusals, payloadCheck, payload, progressOf, progress}
+use Rattle.model.specs.Reading.{ReadingReply, refusedBy, shortBuffer, given, replyNumber, readingReply, furtherReportRefusals, reportRefusals, reportReply, reportBuffer, packageRecords, clusterInfo, changeWord, changeLines, changeInfo, changeInfoMost, furtherPayloadRefusals, payloadRefusals, payloadPart, emptyWhenRefused, payloadReply, payload, payloadCheck, progressOf, progressRefusals, progress}
 use Rattle.model.proofs.soundness.SoundFacts.{sound-says, work-says}
 use Rattle.model.proofs.soundness.Packages.{known-is}
-use Rattle.model.proofs.soundness.Accepted.{first-passed, rest-passed, read-is}
+use Rattle.model.proofs.soundness.Accepted.{first-passed, rest-passed, on-sound, on-unsound, read-is}
 use Rattle.model.proofs.soundness.RunningWithin.{running-within}
 use Rattle.model.proofs.store.StoreLength.{length-area}
 use Rattle.model.proofs.journal.NeverUnsound.{hasNumber, first-listed}
 
+-- ---- the reply
+
+-- the number of the reply is that of the first refusal that applies, or 0
+pub reply-number : (refusal : Option ℕ) (count : ℕ) → replyNumber (readingReply refusal count) ≡ numberOrZero refusal
+reply-number none count = refl
+reply-number (some number) count =
+    cond-cases (λ (r : ReadingReply). replyNumber r ≡ number) (eqb number 19) (shortBuffer count) (refusedBy number)
+    (λ e. sym (eqb-true number 19 e)) λ e. refl
+
+module _ (s : State) (store : Store) where
+  -- a reading call on a sound state is decided by its refusals behind 1
+  pub report-decided : (needed room : ℕ) → sound s store ≡ true
+      → firstRefusal (reportRefusals s store needed room) ≡ firstRefusal (furtherReportRefusals needed room)
+  unfolding reportRefusals
+  report-decided needed room = on-sound s store (furtherReportRefusals needed room)
+
+  pub payload-decided : (id : ℕ) → sound s store ≡ true
+      → firstRefusal (payloadRefusals s store id) ≡ firstRefusal (furtherPayloadRefusals s store id)
+  unfolding payloadRefusals
+  payload-decided id = on-sound s store (furtherPayloadRefusals s store id)
+
+  pub progress-decided : sound s store ≡ true → progress s store ≡ given (progressOf (s .work))
+  unfolding progress progressRefusals firstRefusal
+  progress-decided h = rw (on-sound s store [] h)
+
+  -- and one on an unsound state by 1
+  pub report-unsound : (needed room : ℕ) → sound s store ≡ false → reportReply s store needed room ≡ refusedBy 1
+  unfolding reportReply reportRefusals
+  report-unsound needed room h = rw (on-unsound s store (furtherReportRefusals needed room) h)
+
+  pub payload-unsound : (id : ℕ) → sound s store ≡ false → payloadReply s store id ≡ refusedBy 1
+  unfolding payloadReply payloadRefusals
+  payload-unsound id h = rw (on-unsound s store (furtherPayloadRefusals s store id) h)
+
+  pub progress-unsound : sound s store ≡ false → progress s store ≡ refusedBy 1
+  unfolding progress progressRefusals
+  progress-unsound h = rw (on-unsound s store [] h)
+
 -- ---- reports into a lent buffer
 
--- the three replies: 1, 19 and the count
-pub report-unsound : (needed room : ℕ) → reportReply false needed room ≡ unsound
-unfolding reportReply
-report-unsound needed room = refl
+module _ (s : State) (store : Store) (needed room : ℕ) (h : sound s store ≡ true) where
+  pub report-short : room < needed → reportReply s store needed room ≡ shortBuffer needed
+  unfolding reportReply furtherReportRefusals firstRefusal
+  report-short short = rw (report-decided s store needed room h, lt-ltb room needed short)
 
-pub report-short : (needed room : ℕ) → room < needed → reportReply true needed room ≡ shortBuffer needed
-unfolding reportReply
-report-short needed room h = rw (lt-ltb room needed h)
-
-pub report-fits : (needed room : ℕ) → needed ≤ room → reportReply true needed room ≡ written needed
-unfolding reportReply
-report-fits needed room h = rw (le-ltb room needed h)
+  pub report-fits : needed ≤ room → reportReply s store needed room ≡ given needed
+  unfolding reportReply furtherReportRefusals firstRefusal
+  report-fits fits = rw (report-decided s store needed room h, le-ltb room needed fits)
 
 module _ {A : Type 0} (content old : List A) where
   -- a refused report leaves the buffer as it was
-  pub refused-leaves : (reply : ReportReply) → 1 ≤ reportRefusal reply → reportBuffer reply content old ≡ old
+  pub refused-leaves : (reply : ReadingReply) → 1 ≤ replyNumber reply → reportBuffer reply content old ≡ old
   unfolding reportBuffer
-  refused-leaves unsound h = refl
+  refused-leaves (refusedBy number) h = refl
   refused-leaves (shortBuffer needed) h = refl
-  refused-leaves (written count) h = absurd (omega arith)
+  refused-leaves (given count) h = absurd (omega arith)
 
   -- the first bytes or records are the content, and those behind keep their values
-  pub written-first : take (length content) (reportBuffer (written (length content)) content old) ≡ content
+  pub written-first : take (length content) (reportBuffer (given (length content)) content old) ≡ content
   unfolding reportBuffer
   written-first = take-append-seam content (drop (length content) old)
 
-  pub written-behind : drop (length content) (reportBuffer (written (length content)) content old) ≡ drop (length content) old
+  pub written-behind : drop (length content) (reportBuffer (given (length content)) content old) ≡ drop (length content) old
   unfolding reportBuffer
   written-behind = drop-append-seam content (drop (length content) old)
 
   -- the buffer keeps its length
-  pub buffer-length : (isSound : Bool)
-      → length (reportBuffer (reportReply isSound (length content) (length old)) content old) ≡ length old
-  unfolding reportReply reportBuffer
-  buffer-length false = refl
-  buffer-length true =
-      cond-cases (λ (r : ReportReply). length (reportBuffer r content old) ≡ length old) (ltb (length old) (length content)) _ _
-      (λ b. refl)
+  pub buffer-length : (s : State) (store : Store)
+      → length (reportBuffer (reportReply s store (length content) (length old)) content old) ≡ length old
+  unfolding reportBuffer
+  buffer-length s store =
+      bool-cases (sound s store)
+      (λ h. bool-cases (ltb (length old) (length content))
+      (λ b. rw (report-short s store (length content) (length old) h (ltb-true _ _ b)))
       λ b. let fits = ltb-false (length old) (length content) b in
-      simp (length-append, length-drop) (omega arith)
+      rw (report-fits s store (length content) (length old) h fits) (simp (length-append, length-drop) (omega arith)))
+      λ h. rw (report-unsound s store (length content) (length old) h)
 
 -- ---- how long the reports are
 
@@ -133,8 +168,8 @@ module _ (s : State) (store : Store) (h : sound s store ≡ true) where
   unfolding clusterInfo
   cluster-info-most = list-most (running s) (running-within s store h)
 
-  -- 15 + 16 × 19
-  pub change-info-most : length (changeInfo s) ≤ 319
+  -- 15 + 16 × 19; `longest` of LongestChangeInfo is as long
+  pub change-info-most : length (changeInfo s) ≤ changeInfoMost
   unfolding changeInfo
   change-info-most =
       let ok = sound-says s store h in
@@ -153,23 +188,30 @@ module _ (s : State) (store : Store) (h : sound s store ≡ true) where
 
 module _ (s : State) (store : Store) (id : ℕ) where
   -- the call beside it gives 0 exactly where Payload is not refused
+  pub check-number : payloadCheck s store id ≡ numberOrZero (firstRefusal (payloadRefusals s store id))
+  unfolding payloadCheck payloadReply
+  check-number = reply-number (firstRefusal (payloadRefusals s store id)) (length (payloadPart s store id))
+
   pub check-zero : payloadCheck s store id ≡ 0 → firstRefusal (payloadRefusals s store id) ≡ none
-  unfolding payloadCheck payloadRefusals hasNumber
-  check-zero = go (firstRefusal (payloadRefusals s store id)) refl
+  unfolding payloadRefusals furtherPayloadRefusals hasNumber
+  check-zero zero = go (firstRefusal (payloadRefusals s store id)) refl (sym check-number ∙ zero)
     where
       go : (o : Option ℕ) → firstRefusal (payloadRefusals s store id) ≡ o → numberOrZero o ≡ 0 → o ≡ none
       go none e z = refl
       go (some number) e z = clash (first-listed 0 (payloadRefusals s store id) (e ∙ ap some z)) refl
 
   pub zero-check : firstRefusal (payloadRefusals s store id) ≡ none → payloadCheck s store id ≡ 0
-  unfolding payloadCheck
-  zero-check e = rw e
+  zero-check e = check-number ∙ ap numberOrZero e
 
   -- "empty when refused", with the number
   pub payload-refused : (number : ℕ) → firstRefusal (payloadRefusals s store id) ≡ some number
       → (payload s store id ≡ []) × (payloadCheck s store id ≡ number)
-  unfolding payload payloadCheck
-  payload-refused number e = (rw (e, payload), rw e)
+  unfolding payload payloadReply
+  payload-refused number e = (
+    rw e
+        (cond-cases (λ (r : ReadingReply). emptyWhenRefused r (payloadPart s store id) ≡ []) (eqb number 19) _ _ (λ b. refl) λ b. refl),
+    check-number ∙ ap numberOrZero e,
+  )
 
   abbrev area : List ℕ
   area = areaOf id (s .transfers .packages) store
@@ -185,13 +227,17 @@ module _ (s : State) (store : Store) (id : ℕ) where
     pub count : length (payload s store id) ≡ manifest .count
     pub inside : take (manifest .start) area ++ payload s store id ≡ area
 
-  payload-accepted : firstRefusal (payloadRefusals s store id) ≡ none
-      → payload s store id ≡ take (manifestOf (areaRead s store id) .count) (drop (manifestOf (areaRead s store id) .start) area)
+  -- the reply is the number of the payload's bytes, and Payload gives these
+  pub payload-given : firstRefusal (payloadRefusals s store id) ≡ none → payloadReply s store id ≡ given (length (payloadPart s store id))
+  unfolding payloadReply
+  payload-given e = rw e
+
+  pub payload-accepted : firstRefusal (payloadRefusals s store id) ≡ none → payload s store id ≡ payloadPart s store id
   unfolding payload
-  payload-accepted e = rw (e, payload)
+  payload-accepted e = rw (payload-given e)
 
   pub payload-is : payloadCheck s store id ≡ 0 → PayloadFacts
-  unfolding payloadRefusals
+  unfolding payloadRefusals furtherPayloadRefusals payloadPart
   payload-is z =
       let h1 = check-zero z in
       let h4 = rest-passed _ _ h1 in
@@ -244,10 +290,6 @@ module _ (phase : Phase) (session : Session) (ps : List Package) where
   kept-outside (some w) h outside = absurd (true≢false (sym (and-left (isProcessing phase) _ h) ∙ outside))
 
 module _ (s : State) (store : Store) (h : sound s store ≡ true) where
-  pub progress-accepted : progress s store ≡ some (progressOf (s .work))
-  unfolding progress
-  progress-accepted = rw h
-
   pub progress-most : progressOf (s .work) ≤ 100
   progress-most = kept-most (s .phase) (s .session) (s .transfers .packages) (s .work) (sound-says s store h .keptValues)
 

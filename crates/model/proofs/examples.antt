@@ -1,4 +1,5 @@
 -- Examples of document 01 that hold by computation.
+pub mod Open
 pub mod Transcript
 pub mod Samples
 pub mod BenchExamples

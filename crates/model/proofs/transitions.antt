@@ -3,3 +3,4 @@ pub mod Transitions
 pub mod AcceptingPackages
 pub mod Accepting
 pub mod Refused
+pub mod NoOtherRefusal

@@ -21,9 +21,13 @@ unfoldable pub find : ℕ → List Package → Option Package
 find id [] = none
 find id (p ∷ ps) = cond (eqb id (p .id)) (some p) (find id ps)
 
+-- a package of a size, started with an id: nothing received
+abbrev pub newPackage : ℕ → ℕ → Package
+newPackage id size = record { id = id; size = size; received = 0; blocks = 0; state = transferring }
+
 -- what is looked at where no package has the id: InvalidTransferId is checked before it counts
 abbrev pub noPackage : Package
-noPackage = record { id = 0; size = 0; received = 0; blocks = 0; state = transferring }
+noPackage = newPackage 0 0
 
 unfoldable pub packageOf : ℕ → List Package → Package
 packageOf id ps = elim (find id ps) [ none ↦ noPackage | some p ↦ p ]
@@ -61,10 +65,6 @@ remainingAreas keeps (p ∷ ps) store =
 unfoldable pub deleted : (Package → Bool) → List Package → Store → Store
 deleted keeps ps store =
     remainingAreas keeps ps store ++ (replicate (declared ps - declared (remaining keeps ps)) 0 ++ drop (declared ps) store)
-
--- a package of a size, started with an id: nothing received
-abbrev pub newPackage : ℕ → ℕ → Package
-newPackage id size = record { id = id; size = size; received = 0; blocks = 0; state = transferring }
 
 abbrev pub inState : PackageState → Package → Package
 inState s p = record { id = p .id; size = p .size; received = p .received; blocks = p .blocks; state = s }

@@ -1,6 +1,6 @@
 -- Document 01's "book" of demand 3, here `Journal`: "Its book sees each call and its answer, nothing of the state."
 use Prim.Native.Nat.{ℕ}
-use mathlib.Core.Bool.{Bool, true, false, cond, not}
+use mathlib.Core.Bool.{Bool, true, false, cond}
 use mathlib.Core.List.{List, [], _∷_, _++_}
 use lib.Dec.{eqb}
 use Rattle.clusters.specs.Table.{Table}
@@ -39,10 +39,6 @@ opened table =
       rollbackCompleted = false;
       isIdle = true;
     }
-
-abbrev pub isEmpty : List Action → Bool
-isEmpty [] = true
-isEmpty (a ∷ rest) = false
 
 -- "the action in its accepted blocks, joined". The default of `manifestOf` never counts here: by the claims
 -- `processing-reads-a-package` and `A-is-the-session-list` the blocks read as a package, and A has the actions of the session's list
@@ -90,7 +86,7 @@ packageProcessed j = withTables (j .B) (j .R) (j .A ++ actionIn (j .blocks (j .l
 
 -- "Work answered Cancelled or Inconsistent, A empty: a return to Idle."
 unfoldable pub packageLeft : Journal → Journal
-packageLeft j = cond (isEmpty (j .A)) (returned j) j
+packageLeft j = elim (j .A) [ [] ↦ returned j | a ∷ rest ↦ j ]
 
 -- "Report answered Done: with direction Activate R becomes B with A applied in order; with Rollback, now completed, R becomes B;
 -- with Revert or Finish the session ends by it, a return to Idle"

@@ -10,4 +10,3 @@ pub mod Run
 pub mod Journal
 pub mod Reading
 pub mod Demand3
-pub mod Open

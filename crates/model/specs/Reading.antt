@@ -1,57 +1,72 @@
 -- "Reading calls": what they answer and what they leave in a lent buffer. None changes state or store.
 use Prim.Native.Nat.{ℕ, _*_, _/_}
-use mathlib.Core.Bool.{Bool, true, false, not, cond}
+use mathlib.Core.Bool.{cond}
 use mathlib.Core.List.{List, [], _∷_, _++_, map}
 use mathlib.Core.Option.{Option, none, some}
 use lib.Dec.{eqb, ltb}
 use lib.ListN.{length, take, drop}
 use Rattle.base.specs.Quoted.{bytes}
-use Rattle.base.specs.Refusals.{Refusal, refuse_when_, firstRefusal, numberOrZero}
+use Rattle.base.specs.Refusals.{Refusal, refuse_when_, firstRefusal}
 use Rattle.text.specs.Digits.{digits}
 use Rattle.rows.specs.Line.{lineText}
 use Rattle.clusters.specs.Action.{Action, install, update, remove, actionPart}
 use Rattle.cluster_list.specs.Write.{writeList}
-use Rattle.model.specs.State.{packageStateNumber, Package, Entry, Work, State, Store, actions}
-use Rattle.model.specs.Areas.{find, packageOf, areaOf, isTransferring}
+use Rattle.manifest.specs.Refused.{packageRefusals}
+use Rattle.model.specs.State.{packageStateNumber, Package, Work, State, Store, actions}
+use Rattle.model.specs.Areas.{areaOf, isTransferring}
 use Rattle.model.specs.Tables.{running}
-use Rattle.model.specs.Sound.{sound}
-use Rattle.model.specs.Step.{unknown, areaRead, named, isIllFormed, isInconsistent, manifestOf}
+use Rattle.model.specs.Sound.{badState}
+use Rattle.model.specs.Step.{unknown, areaRead, named, manifestOf}
 
--- ---- reports into a lent buffer
+-- ---- the reply of a reading call
 
--- "These three answer the number of records or bytes written"; 19 "gives the length needed"
-pub data ReportReply : Type 0 where
-  unsound : ReportReply
-  shortBuffer : ℕ → ReportReply
-  written : ℕ → ReportReply
+-- "a refusal is the number alone (19 adds a length)"; else the number that the call gives: of records or bytes, or the progress
+pub data ReadingReply : Type 0 where
+  refusedBy : ℕ → ReadingReply
+  shortBuffer : ℕ → ReadingReply
+  given : ℕ → ReadingReply
 
--- the number of the refusal, or 0
-abbrev pub reportRefusal : ReportReply → ℕ
-reportRefusal unsound = 1
-reportRefusal (shortBuffer needed) = 19
-reportRefusal (written count) = 0
+-- "the refusal number, or 0"
+abbrev pub replyNumber : ReadingReply → ℕ
+replyNumber (refusedBy number) = number
+replyNumber (shortBuffer needed) = 19
+replyNumber (given count) = 0
 
--- "1. BadState"; "19. ShortBuffer: a report buffer too short; gives the length needed."
-unfoldable pub reportReply : Bool → ℕ → ℕ → ReportReply
-reportReply isSound needed room = cond isSound (cond (ltb room needed) (shortBuffer needed) (written needed)) unsound
+-- the reply by the first refusal that applies. 19 "gives the length needed", which is the number of records or bytes to be written
+abbrev pub readingReply : Option ℕ → ℕ → ReadingReply
+readingReply none count = given count
+readingReply (some number) count = cond (eqb number 19) (shortBuffer count) (refusedBy number)
+
+-- ---- reports into a lent buffer: Packages, ClusterInfo and ChangeInfo
+
+-- the refusals behind 1: "19. ShortBuffer: a report buffer too short; gives the length needed."
+unfoldable pub furtherReportRefusals : ℕ → ℕ → List Refusal
+furtherReportRefusals needed room = (refuse 19 when ltb room needed) ∷ []
+
+unfoldable pub reportRefusals : State → Store → ℕ → ℕ → List Refusal
+reportRefusals s store needed room = badState s store ∷ furtherReportRefusals needed room
+
+-- "These three answer the number of records or bytes written."
+unfoldable pub reportReply : State → Store → ℕ → ℕ → ReadingReply
+reportReply s store needed room = readingReply (firstRefusal (reportRefusals s store needed room)) needed
 
 -- "Records or bytes behind what was written keep their values." A refusal writes nothing
-unfoldable pub reportBuffer : {A : Type 0} → ReportReply → List A → List A → List A
-reportBuffer unsound content old = old
+unfoldable pub reportBuffer : {A : Type 0} → ReadingReply → List A → List A → List A
+reportBuffer (refusedBy number) content old = old
 reportBuffer (shortBuffer needed) content old = old
-reportBuffer (written count) content old = content ++ drop count old
+reportBuffer (given count) content old = content ++ drop count old
 
 -- a report: its reply, and what the lent buffer holds then
 pub record Report (A : Type 0) : Type 0 where
-  pub reply : ReportReply
+  pub reply : ReadingReply
   pub buffer : List A
 
--- the report of a content into a lent buffer, by whether the state is sound: the length is the content's
-unfoldable pub reportOf : {A : Type 0} → Bool → List A → List A → Report A
-reportOf isSound content old =
+-- the report of a content into a lent buffer: the length is the content's
+unfoldable pub reportOf : {A : Type 0} → State → Store → List A → List A → Report A
+reportOf s store content old =
     record {
-      reply = reportReply isSound (length content) (length old);
-      buffer = reportBuffer (reportReply isSound (length content) (length old)) content old;
+      reply = reportReply s store (length content) (length old);
+      buffer = reportBuffer (reportReply s store (length content) (length old)) content old;
     }
 
 -- ---- Packages
@@ -71,7 +86,7 @@ unfoldable pub packageRecords : State → List PackageRecord
 packageRecords s = map packageRecord (s .transfers .packages)
 
 unfoldable pub packagesReport : State → Store → List PackageRecord → Report PackageRecord
-packagesReport s store old = reportOf (sound s store) (packageRecords s) old
+packagesReport s store old = reportOf s store (packageRecords s) old
 
 -- ---- ClusterInfo and ChangeInfo
 
@@ -80,7 +95,7 @@ unfoldable pub clusterInfo : State → List ℕ
 clusterInfo s = writeList (running s)
 
 unfoldable pub clusterInfoReport : State → Store → List ℕ → Report ℕ
-clusterInfoReport s store old = reportOf (sound s store) (clusterInfo s) old
+clusterInfoReport s store old = reportOf s store (clusterInfo s) old
 
 -- "Added, Updated or Removed"
 abbrev pub changeWord : Action → List ℕ
@@ -96,32 +111,47 @@ changeLines (a ∷ rest) = lineText (digits (actionPart a) ∷ changeWord a ∷ 
 unfoldable pub changeInfo : State → List ℕ
 changeInfo s = lineText (bytes "cluster" ∷ bytes "change" ∷ []) ++ changeLines (actions (s .session .listed))
 
+-- the bytes of the longest ChangeInfo: the names line, and 16 lines of a part number of ten digits and `Updated` or `Removed`
+abbrev pub changeInfoMost : ℕ
+changeInfoMost = 319
+
 unfoldable pub changeInfoReport : State → Store → List ℕ → Report ℕ
-changeInfoReport s store old = reportOf (sound s store) (changeInfo s) old
+changeInfoReport s store old = reportOf s store (changeInfo s) old
 
 -- ---- Payload
 
--- 1; 4; 5 "Payload on Transferring"; 9; 10
-unfoldable pub payloadRefusals : State → Store → ℕ → List Refusal
-payloadRefusals s store id =
-    (refuse 1 when not (sound s store))
-    ∷ (refuse 4 when unknown id (s .transfers .packages))
+-- the refusals behind 1: 4; 5 "Payload on Transferring"; 9; 10
+unfoldable pub furtherPayloadRefusals : State → Store → ℕ → List Refusal
+furtherPayloadRefusals s store id =
+    (refuse 4 when unknown id (s .transfers .packages))
     ∷ (refuse 5 when isTransferring (named s store id .state))
-    ∷ (refuse 9 when isIllFormed (areaRead s store id))
-    ∷ (refuse 10 when isInconsistent (areaRead s store id))
-    ∷ []
+    ∷ packageRefusals (areaRead s store id)
 
--- "a call beside it with the same checks gives the refusal number, or 0"
-unfoldable pub payloadCheck : State → Store → ℕ → ℕ
-payloadCheck s store id = numberOrZero (firstRefusal (payloadRefusals s store id))
+unfoldable pub payloadRefusals : State → Store → ℕ → List Refusal
+payloadRefusals s store id = badState s store ∷ furtherPayloadRefusals s store id
+
+-- "the payload's part of the store": of the area of the package
+unfoldable pub payloadPart : State → Store → ℕ → List ℕ
+payloadPart s store id =
+    let m = manifestOf (areaRead s store id) in
+    take (m .count) (drop (m .start) (areaOf id (s .transfers .packages) store))
+
+abbrev pub emptyWhenRefused : ReadingReply → List ℕ → List ℕ
+emptyWhenRefused (refusedBy number) part = []
+emptyWhenRefused (shortBuffer needed) part = []
+emptyWhenRefused (given count) part = part
+
+-- it gives the number of the payload's bytes
+unfoldable pub payloadReply : State → Store → ℕ → ReadingReply
+payloadReply s store id = readingReply (firstRefusal (payloadRefusals s store id)) (length (payloadPart s store id))
 
 -- "Payload(id) returns the payload's part of the store itself, empty when refused"
 unfoldable pub payload : State → Store → ℕ → List ℕ
-payload s store id =
-    elim (firstRefusal (payloadRefusals s store id)) [
-      | none ↦ take (manifestOf (areaRead s store id) .count) (drop (manifestOf (areaRead s store id) .start) (areaOf id (s .transfers .packages) store))
-      | some number ↦ []
-    ]
+payload s store id = emptyWhenRefused (payloadReply s store id) (payloadPart s store id)
+
+-- "a call beside it with the same checks gives the refusal number, or 0"
+unfoldable pub payloadCheck : State → Store → ℕ → ℕ
+payloadCheck s store id = replyNumber (payloadReply s store id)
 
 -- ---- Progress
 
@@ -130,6 +160,9 @@ unfoldable pub progressOf : Option Work → ℕ
 progressOf none = 0
 progressOf (some w) = cond (eqb (w .count) 0) 100 (100 * w .done / w .count)
 
--- refused by 1 alone: none then
-unfoldable pub progress : State → Store → Option ℕ
-progress s store = cond (sound s store) (some (progressOf (s .work))) none
+-- refused by 1 alone
+unfoldable pub progressRefusals : State → Store → List Refusal
+progressRefusals s store = badState s store ∷ []
+
+unfoldable pub progress : State → Store → ReadingReply
+progress s store = readingReply (firstRefusal (progressRefusals s store)) (progressOf (s .work))

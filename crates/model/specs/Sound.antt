@@ -1,12 +1,13 @@
--- "Sound": the parts of soundness, each by its words in document 01. "The store's bytes play no part in it."
+-- "Sound": the parts of soundness, each by its words in document 01.
 use Prim.Native.Nat.{ℕ, _+_}
 use mathlib.Core.Bool.{Bool, true, false, not, cond, _&&_, _||_, Bool·beq}
 use mathlib.Core.List.{List, [], _∷_}
 use mathlib.Core.Option.{Option, none, some}
 use lib.Dec.{eqb, leb, ltb}
 use lib.ListN.{length}
+use Rattle.base.specs.Refusals.{Refusal, refuse_when_}
 use Rattle.checksum.specs.Sum.{sumsWithin}
-use Rattle.clusters.specs.Table.{Table, tableWithin}
+use Rattle.clusters.specs.Table.{tableWithin}
 use Rattle.clusters.specs.Action.{passes, passInTurn, actionWithin, actionsWithin}
 use Rattle.model.specs.State.{Package, Phase, isIdle, isProcessing, Transfers, Entry, Session, Work, State, Store, actions}
 use Rattle.model.specs.Areas.{declared, packageOf, isTransferring, isBeingProcessed, isProcessed, countIn, processingId}
@@ -25,8 +26,8 @@ abbrev pub idMost : ℕ
 idMost = 4294967295
 
 -- "that of the store handed in too"; "areas fit the store"
-unfoldable pub storeSound : List Package → Store → Bool
-storeSound packages store = leb (length store) storeMost && leb (declared packages) (length store)
+unfoldable pub storeSound : List Package → ℕ → Bool
+storeSound packages storeLength = leb storeLength storeMost && leb (declared packages) storeLength
 
 -- "received is at most the size, and equal to it past Transferring"
 unfoldable pub receivedSound : Package → Bool
@@ -90,12 +91,20 @@ unfoldable pub listFits : Phase → List Entry → Bool
 listFits phase [] = isIdle phase || isProcessing phase
 listFits phase (e ∷ entries) = not (isIdle phase)
 
--- "Sound: every limit above holds, that of the store handed in too; ..": all the parts above, joined
-unfoldable pub sound : State → Store → Bool
-sound s store =
-    storeSound (s .transfers .packages) store
+-- "Sound: every limit above holds, that of the store handed in too; ..": all the parts above, joined, for a store of a length
+unfoldable pub soundFor : State → ℕ → Bool
+soundFor s storeLength =
+    storeSound (s .transfers .packages) storeLength
     && (transfersSound (s .transfers)
     && (sessionSound (s .session)
     && (listSound (s .session .listed) (s .transfers .packages)
     && (keptSound (s .phase) (s .session) (s .transfers .packages) (s .work)
     && (processingSound (s .phase) (s .transfers .packages) && listFits (s .phase) (s .session .listed))))))
+
+-- "The store's bytes play no part in it."
+abbrev pub sound : State → Store → Bool
+sound s store = soundFor s (length store)
+
+-- "1. BadState: any call but Load; the state isn't sound"
+abbrev pub badState : State → Store → Refusal
+badState s store = refuse 1 when not (sound s store)

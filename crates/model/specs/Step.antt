@@ -6,19 +6,19 @@ use mathlib.Core.Option.{Option, none, some}
 use lib.Dec.{eqb, leb, ltb}
 use lib.ListN.{length, take, drop}
 use Rattle.base.specs.Refusals.{Refusal, refuse_when_, firstRefusal}
-use Rattle.checksum.specs.declared.Sums.{Sums}
 use Rattle.checksum.specs.Sum.{startSums, continued, sumNumber}
 use Rattle.clusters.specs.Table.{Table, needsMet}
-use Rattle.clusters.specs.Action.{Action, remove, actionRefusals}
+use Rattle.clusters.specs.Action.{remove, actionRefusals}
 use Rattle.manifest.specs.Package.{Manifest, PackageRead, illFormed, inconsistent, consistent, readPackage}
-use Rattle.model.specs.State.{PackageState, transferred, beingProcessed, Package, RollbackOrigin, verifyingRollsBack, activatedRollsBack, CleanUpOrigin, readyCleansUp, activatedCleansUp, rolledBackCleansUp, Phase, idle, ready, processing, activating, verifying, activated, rollingBack, rolledBack, cleaningUp, phaseNumber, isProcessing, Transfers, Entry, Session, Work, State, state, Store, actions}
+use Rattle.manifest.specs.Refused.{packageRefusals}
+use Rattle.model.specs.State.{PackageState, transferred, beingProcessed, Package, RollbackOrigin, verifyingRollsBack, activatedRollsBack, readyCleansUp, activatedCleansUp, rolledBackCleansUp, Phase, idle, ready, processing, activating, verifying, activated, rollingBack, rolledBack, cleaningUp, phaseNumber, isProcessing, Transfers, Entry, Work, State, state, Store, actions}
 use Rattle.model.specs.State as states
 use Rattle.model.specs.Calls.{Call, callNumber, transferStart, transferData, transferExit, deleteTransfer, process, work, cancel, revert, activate, rollback, finish, report, Answer, givenId, done, working, processed, cancelled, preActivationFailed, missingDependencies, verificationFailed, notAbleToRollback, notAbleToRevert, cleaningFailed, Reply, refused, accepted}
 use Rattle.model.specs.Calls as calls
 use Rattle.model.specs.Permissions.{allowed}
 use Rattle.model.specs.Areas.{free, find, packageOf, areaOf, blockPut, remaining, deleted, newPackage, inState, withBlock, changed, isTransferring, isTransferred, isBeingProcessed, isProcessed, processingId}
 use Rattle.model.specs.Tables.{staged}
-use Rattle.model.specs.Sound.{sound, packagesMost, idMost}
+use Rattle.model.specs.Sound.{packagesMost, idMost, badState}
 
 -- what a call gives: its reply, the next state and the store then
 pub record Outcome : Type 0 where
@@ -34,16 +34,6 @@ outcome answer s store = record { reply = accepted answer; state = s; store = st
 -- no package has the id
 abbrev pub unknown : ℕ → List Package → Bool
 unknown id ps = elim (find id ps) [ none ↦ true | some p ↦ false ]
-
-abbrev pub isIllFormed : PackageRead → Bool
-isIllFormed illFormed = true
-isIllFormed inconsistent = false
-isIllFormed (consistent m) = false
-
-abbrev pub isInconsistent : PackageRead → Bool
-isInconsistent illFormed = false
-isInconsistent inconsistent = true
-isInconsistent (consistent m) = false
 
 -- what is looked at where the area has no package text: 9 and 10 are checked before it counts
 abbrev pub noManifest : Manifest
@@ -81,15 +71,12 @@ module _ (s : State) (store : Store) where
       ∷ (refuse 7 when (ltb (length block) 1 || ltb (named id .size) (named id .received + length block)))
       ∷ []
   -- 4 as above; "5. WrongPackageState: Data or Exit off Transferring"; "8. InsufficientData: Exit before all bytes came.";
-  -- "9. InvalidManifest: Exit, Process or Payload; text before the payload ill-formed."; "10. PackageInconsistent: the same calls;
-  -- bytes behind the empty line aren't exactly the payload count."
+  -- "9. InvalidManifest: Exit, Process or Payload"; "10. PackageInconsistent: the same calls"
   ownRefusals (transferExit id) =
       (refuse 4 when unknown id (s .transfers .packages))
       ∷ (refuse 5 when not (isTransferring (named id .state)))
       ∷ (refuse 8 when ltb (named id .received) (named id .size))
-      ∷ (refuse 9 when isIllFormed (areaRead id))
-      ∷ (refuse 10 when isInconsistent (areaRead id))
-      ∷ []
+      ∷ packageRefusals (areaRead id)
   -- 4 as above; "5. WrongPackageState: .. Delete on Processing or Processed"
   ownRefusals (deleteTransfer id) =
       (refuse 4 when unknown id (s .transfers .packages))
@@ -100,9 +87,8 @@ module _ (s : State) (store : Store) where
   ownRefusals (process id) =
       (refuse 4 when unknown id (s .transfers .packages))
       ∷ (refuse 5 when not (isTransferred (named id .state)))
-      ∷ (refuse 9 when isIllFormed (areaRead id))
-      ∷ (refuse 10 when isInconsistent (areaRead id))
-      ∷ actionRefusals (staged (s .session)) (actions (s .session .listed)) (manifestOf (areaRead id) .action)
+      ∷ (packageRefusals (areaRead id)
+      ++ actionRefusals (staged (s .session)) (actions (s .session .listed)) (manifestOf (areaRead id) .action))
   -- Work has none from 4 on
   ownRefusals (work n) = []
   -- "4. InvalidTransferId: .. or Cancel names another than the one processing."
@@ -114,16 +100,18 @@ module _ (s : State) (store : Store) where
   ownRefusals finish = []
   ownRefusals (report good) = []
 
-  -- "Checked in this order, each where it names the call"
-  unfoldable pub refusals : Call → List Refusal
-  refusals call =
-      -- "1. BadState: any call but Load; the state isn't sound"
-      (refuse 1 when not (sound s store))
+  -- those behind 1
+  unfoldable pub furtherRefusals : Call → List Refusal
+  furtherRefusals call =
       -- "2. ServiceBusy: Process in Processing."
-      ∷ (refuse 2 when (eqb (callNumber call) 4 && isProcessing (s .phase)))
+      (refuse 2 when (eqb (callNumber call) 4 && isProcessing (s .phase)))
       -- "3. OperationNotPermitted: the manager's state doesn't allow the call."
       ∷ (refuse 3 when not (allowed (s .phase) call))
       ∷ ownRefusals call
+
+  -- "Checked in this order, each where it names the call": 1 first
+  unfoldable pub refusals : Call → List Refusal
+  refusals call = badState s store ∷ furtherRefusals call
 
 -- ---- what an accepted call does
 

@@ -7,7 +7,6 @@ use mathlib.Core.List.{List, [], _∷_, _++_, map}
 use mathlib.Core.Option.{Option, none, some}
 use lib.ListN.{length, replicate}
 use Rattle.base.specs.Quoted.{bytes}
-use Rattle.clusters.specs.Cluster.{Cluster}
 use Rattle.clusters.specs.Table.{Table}
 use Rattle.clusters.specs.Action.{Action, install, update, remove}
 use Rattle.model.specs.State.{PackageState, transferring, transferred, beingProcessed, Package, verifyingRollsBack, activatedRollsBack, readyCleansUp, activatedCleansUp, rolledBackCleansUp, Phase, idle, ready, processing, activating, verifying, activated, rollingBack, rolledBack, cleaningUp, Entry, Work, Store, state}
@@ -15,9 +14,9 @@ use Rattle.model.specs.State as states
 use Rattle.model.specs.Calls.{transferStart, transferData, transferExit, deleteTransfer, process, work, cancel, revert, activate, rollback, finish, report, givenId, done, working, processed, cancelled, inconsistent, preActivationFailed, missingDependencies, verificationFailed, notAbleToRollback, notAbleToRevert, cleaningFailed}
 use Rattle.model.specs.Tables.{runningIn}
 use Rattle.model.specs.Run.{Run}
-use Rattle.model.specs.Open.{computing}
-use Rattle.model.proofs.examples.Transcript.{packageText, version, cluster, need, packageOf, transfers, session, entry, kept, Start, start, _gives_, Case, from_calls_, _ends_, HoldLooking}
-use Rattle.model.proofs.examples.Samples.{cluster20, readyWith}
+use Rattle.model.proofs.examples.Open.{computing}
+use Rattle.model.proofs.examples.Transcript.{packageText, version, cluster, packageOf, transfers, session, entry, kept, Start, start, _gives_, Case, from_calls_, _ends_, HoldLooking}
+use Rattle.model.proofs.examples.Samples.{cluster20, updated20, cluster30, dependent30, updateText, readyWith, incomplete, waiting, four, bytesOfFour, listedTwo, stagedTable, sessionIn}
 
 -- the cases of this file look at the whole state and store
 abbrev left : Run → Start
@@ -25,50 +24,21 @@ left r = start (r .state) (r .store)
 
 -- ---- the calls between Ready and Idle
 
--- beside two Processed packages, of which the later was processed first, one is Transferring and one Transferred; two bytes are free
-abbrev begun : Package
-begun = packageOf 2 4 1 1 transferring
-
-abbrev came : Package
-came = packageOf 4 3 3 2 transferred
-
-abbrev four : List Package
-four = packageOf 1 2 2 1 states.processed ∷ begun ∷ packageOf 3 1 1 1 states.processed ∷ came ∷ []
-
-abbrev bytesOfFour : Store
-bytesOfFour = bytes "ab" ++ bytes "c" ++ replicate 3 0 ++ bytes "d" ++ bytes "efg" ++ replicate 2 0
-
--- 30 needs 20 at 1.0.5.0, which the second package brings
-abbrev installed : Cluster
-installed = cluster 30 (version 1 0 0 0) (need 20 (version 1 0 5 0) ∷ [])
-
-abbrev updated : Cluster
-updated = cluster 20 (version 1 0 5 0) []
-
-abbrev listed : List Entry
-listed = entry 3 (install installed) ∷ entry 1 (update updated) ∷ []
-
-abbrev stagedTable : Table
-stagedTable = updated ∷ installed ∷ []
-
--- in a manager's state; and the same where the second package brings too low a version
-abbrev sessionIn : Phase → Start
-sessionIn phase = start (state phase (transfers four 5) (session (cluster20 ∷ []) listed) none) bytesOfFour
-
+-- the session with needs that its second package, of too low a version, does not meet
 abbrev unmetIn : Phase → Start
 unmetIn phase =
     start
     (state
     phase
     (transfers four 5)
-    (session (cluster20 ∷ []) (entry 3 (install installed) ∷ entry 1 (update (cluster 20 (version 1 0 4 9) [])) ∷ []))
+    (session (cluster20 ∷ []) (entry 3 (install dependent30) ∷ entry 1 (update (cluster 20 (version 1 0 4 9) [])) ∷ []))
     none)
     bytesOfFour
 
 -- Idle, both Processed packages deleted: the others' areas moved down, 0 behind them. The next session begins with a table
 abbrev cleaned : Table → Start
 cleaned table =
-    start (state idle (transfers (begun ∷ came ∷ []) 5) (session table []) none)
+    start (state idle (transfers (incomplete ∷ waiting ∷ []) 5) (session table []) none)
     (bytes "c" ++ replicate 3 0 ++ bytes "efg" ++ replicate 5 0)
 
 abbrev moves : List (Case Start)
@@ -111,19 +81,17 @@ moves =
 
 -- that session in Verifying, with other packages, next id and store
 abbrev verifyingWith : List Package → ℕ → Store → Start
-verifyingWith packages next store = start (state verifying (transfers packages next) (session (cluster20 ∷ []) listed) none) store
+verifyingWith packages next store = start (state verifying (transfers packages next) (session (cluster20 ∷ []) listedTwo) none) store
 
 -- with the Transferring package after other blocks
 abbrev withBegun : Package → List ℕ → Start
 withBegun p area =
-    verifyingWith (packageOf 1 2 2 1 states.processed ∷ p ∷ packageOf 3 1 1 1 states.processed ∷ came ∷ []) 5
+    verifyingWith (packageOf 1 2 2 1 states.processed ∷ p ∷ packageOf 3 1 1 1 states.processed ∷ waiting ∷ []) 5
     (bytes "ab" ++ area ++ bytes "defg" ++ replicate 2 0)
 
-abbrev removeText : List ℕ
-removeText = packageText "remove,20,,0,7,," ""
-
-abbrev updateText : List ℕ
-updateText = packageText "update,20,1.0.5.0,3,19495,," "abc"
+-- the sum of a remove is any
+abbrev sumText : List ℕ
+sumText = packageText "remove,20,,0,7,," ""
 
 -- packages of these texts, in these states
 abbrev twoTexts : Phase → PackageState → PackageState → Option Work → Start
@@ -132,11 +100,11 @@ twoTexts phase first second w =
     (state
     phase
     (transfers
-    (packageOf 1 (length removeText) (length removeText) 1 first ∷ packageOf 2 (length updateText) (length updateText) 2 second ∷ [])
+    (packageOf 1 (length sumText) (length sumText) 1 first ∷ packageOf 2 (length updateText) (length updateText) 2 second ∷ [])
     3)
     (session (cluster20 ∷ []) [])
     w)
-    (removeText ++ updateText)
+    (sumText ++ updateText)
 
 abbrev transferCalls : List (Case Start)
 transferCalls =
@@ -156,10 +124,10 @@ transferCalls =
     -- "Deleting moves later areas down whole and fills the bytes between the new and the old end of the last area with 0": of a
     -- Transferring package, of a Transferred one
     ∷ from sessionIn verifying calls (deleteTransfer 2 gives done ∷ [])
-    ends verifyingWith (packageOf 1 2 2 1 states.processed ∷ packageOf 3 1 1 1 states.processed ∷ came ∷ []) 5
+    ends verifyingWith (packageOf 1 2 2 1 states.processed ∷ packageOf 3 1 1 1 states.processed ∷ waiting ∷ []) 5
     (bytes "abdefg" ++ replicate 6 0)
     ∷ from sessionIn verifying calls (deleteTransfer 4 gives done ∷ [])
-    ends verifyingWith (packageOf 1 2 2 1 states.processed ∷ begun ∷ packageOf 3 1 1 1 states.processed ∷ []) 5
+    ends verifyingWith (packageOf 1 2 2 1 states.processed ∷ incomplete ∷ packageOf 3 1 1 1 states.processed ∷ []) 5
     (bytes "abc" ++ replicate 3 0 ++ bytes "d" ++ replicate 5 0)
     ∷ []
 
@@ -180,7 +148,7 @@ abbrev second : Phase → PackageState → List Entry → Option Work → Start
 second phase s entries w = beside (packageOf 3 1 1 1 states.processed ∷ []) (entry 3 (remove 20) ∷ entries) phase s w
 
 abbrev action : Action
-action = install (cluster 30 (version 1 0 0 0) [])
+action = install cluster30
 
 -- Processing with a sum: c0 and c1, bytes done, whether a cancel is noted
 abbrev processingWith : ℕ → ℕ → ℕ → ℕ → Bool → Start
@@ -216,7 +184,7 @@ processCalls =
     -- "Process(id): Idle or Ready to Processing."; "The state keeps the action, the payload's start within its area, count and sum, with
     -- the running sums and the bytes done at 0"
     from twoTexts idle transferred transferred none calls (process 2 gives done ∷ [])
-    ends twoTexts processing transferred beingProcessed (some (kept (update updated) 76 3 19495 0 0 0 false))
+    ends twoTexts processing transferred beingProcessed (some (kept (update updated20) 76 3 19495 0 0 0 false))
     ∷ from twoTexts idle transferred transferred none calls (process 1 gives done ∷ [])
     ends twoTexts processing beingProcessed transferred (some (kept (remove 20) 65 0 7 0 0 0 false))
     ∷ from readyWith (cluster20 ∷ []) (action ∷ []) (updateText ∷ []) calls (process 2 gives done ∷ [])
@@ -225,7 +193,7 @@ processCalls =
     processing
     (transfers (packageOf 1 1 1 1 states.processed ∷ packageOf 2 79 79 1 beingProcessed ∷ []) 3)
     (session (cluster20 ∷ []) (entry 1 action ∷ []))
-    (some (kept (update updated) 76 3 19495 0 0 0 false)))
+    (some (kept (update updated20) 76 3 19495 0 0 0 false)))
     (0 ∷ updateText)
     ∷ []
 
@@ -274,7 +242,7 @@ answers = refl
 -- states it is the beginning table."
 abbrev runningTables : List Table
 runningTables =
-    map (λ phase. runningIn phase (session (cluster20 ∷ []) listed))
+    map (λ phase. runningIn phase (session (cluster20 ∷ []) listedTwo))
     (idle
     ∷ ready
     ∷ processing

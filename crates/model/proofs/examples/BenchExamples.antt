@@ -16,7 +16,7 @@ use Rattle.manifest.specs.Package.{consistent, readPackage}
 use Rattle.model.specs.State.{verifying}
 use Rattle.model.specs.Calls.{transferStart, process, finish, givenId}
 use Rattle.model.specs.Run.{Made}
-use Rattle.model.specs.Open.{computing}
+use Rattle.model.proofs.examples.Open.{computing}
 use Rattle.model.proofs.examples.Transcript.{packageText, version, cluster, need, Start, loadedWith, _gives_, _isRefusedBy_, callsToTransfer, callsToProcess, callsToVerifying, from_calls_, _ends_, Hold, HoldLooking}
 
 abbrev loaded : Start

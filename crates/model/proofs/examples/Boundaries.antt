@@ -11,7 +11,7 @@ use Rattle.model.specs.State.{Store, transferring, transferred}
 use Rattle.model.specs.Calls.{Reply, transferStart, transferData, transferExit, deleteTransfer, process, givenId, done, refused, accepted}
 use Rattle.model.specs.Step.{step}
 use Rattle.model.specs.Load.{loadedState}
-use Rattle.model.specs.Open.{computing}
+use Rattle.model.proofs.examples.Open.{computing}
 use Rattle.model.proofs.examples.Transcript.{line, packageText, version, cluster, loadedWith, _gives_, _isRefusedBy_, Answered, from_calls_, Hold}
 use Rattle.model.proofs.examples.Samples.{clusters, begun, idleWith, idleFrom, idleHolding, readyWith}
 

@@ -11,7 +11,7 @@ use Rattle.model.specs.State.{State, Store, idle, verifying, transferrin
 use Rattle.model.specs.Calls.{done, refused, accepted}
 use Rattle.model.specs.Step.{Outcome, outcome}
 use Rattle.model.specs.Load.{load}
-use Rattle.model.specs.Open.{computing}
+use Rattle.model.proofs.examples.Open.{computing}
 use Rattle.model.proofs.examples.Transcript.{line, listText, transfers, session, packageOf}
 use Rattle.model.proofs.examples.Samples.{cluster20, clusters}
 

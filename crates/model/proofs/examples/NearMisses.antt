@@ -10,9 +10,9 @@ use Rattle.model.specs.State.{Phase, idle, ready, verifying, rollingBack
 use Rattle.model.specs.Calls.{process, work, cancel, activate, rollback, report, done, working, cancelled, inconsistent, missingDependencies}
 use Rattle.model.specs.Tables.{running}
 use Rattle.model.specs.Run.{Run}
-use Rattle.model.specs.Open.{computing}
+use Rattle.model.proofs.examples.Open.{computing}
 use Rattle.model.proofs.examples.Transcript.{line, listText, packageText, version, cluster, need, Start, loadedFrom, loadedWith, _gives_, callsToTransfer, callsToProcess, callsToVerifying, Case, from_calls_, _ends_, HoldLooking}
-use Rattle.model.proofs.examples.Samples.{cluster20}
+use Rattle.model.proofs.examples.Samples.{cluster20, removeText}
 use Rattle.model.proofs.examples.BenchExamples.{installText, toReady, toVerifying}
 
 -- the manager's state and the running table
@@ -32,9 +32,6 @@ loaded = loadedWith 1 200
 -- cluster 11 needs 20
 abbrev loadedDependent : Start
 loadedDependent = loadedFrom (listText "11,1.0.0.3,20,1.0.0.0" ++ line "20,1.0.4.0,,") 1 200
-
-abbrev removeText : List ℕ
-removeText = packageText "remove,20,,0,0,," ""
 
 abbrev wrongSumText : List ℕ
 wrongSumText = packageText "remove,20,,0,1,," ""

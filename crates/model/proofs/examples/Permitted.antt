@@ -10,7 +10,7 @@ use Rattle.model.specs.State.{transferring, transferred, beingProcessed,
 use Rattle.model.specs.Calls.{Call, callNumber, transferStart, transferData, transferExit, deleteTransfer, process, work, cancel, revert, activate, rollback, finish, report}
 use Rattle.model.specs.Permissions.{allowed}
 use Rattle.model.specs.Demand3.{mayWriteStore}
-use Rattle.model.specs.Open.{computing}
+use Rattle.model.proofs.examples.Open.{computing}
 
 -- those of a list that a test picks
 abbrev picked : {A : Type 0} → (A → Bool) → List A → List A

@@ -5,66 +5,18 @@ use Prim.Native.Nat.{ℕ, _-_}
 use mathlib.Core.Path.{refl}
 use mathlib.Core.Bool.{true, false}
 use mathlib.Core.List.{List, [], _∷_, _++_, map}
-use mathlib.Core.Option.{some}
-use lib.ListN.{length, replicate, take}
+use lib.ListN.{length, take}
 use Rattle.base.specs.Quoted.{bytes}
 use Rattle.clusters.specs.Action.{install, update, remove}
-use Rattle.model.specs.State.{transferring, transferred, beingProcessed, processing, verifying, State, state}
+use Rattle.model.specs.State.{transferring, transferred, verifying}
 use Rattle.model.specs.State as states
 use Rattle.model.specs.Calls.{Call, transferStart, transferData, transferExit, deleteTransfer, process, work, cancel, revert, activate, rollback, finish, report, givenId, done}
 use Rattle.model.specs.Run.{Made}
-use Rattle.model.specs.Open.{computing}
-use Rattle.model.proofs.examples.Transcript.{packageText, version, cluster, packageOf, transfers, session, entry, kept, Start, start, loadedWith, _gives_, _isRefusedBy_, Answered, from_calls_, Hold}
-use Rattle.model.proofs.examples.Samples.{cluster20, clusters, begun, inPhase, idleWith, idleFrom, idleHolding, readyWith}
+use Rattle.model.proofs.examples.Open.{computing}
+use Rattle.model.proofs.examples.Transcript.{packageText, version, cluster, packageOf, Start, loadedWith, _gives_, _isRefusedBy_, Answered, from_calls_, Hold}
+use Rattle.model.proofs.examples.Samples.{cluster20, updated20, cluster30, clusters, updateText, removeText, illFormedText, longText, shortText, bothText, begun, inPhase, idleWith, idleFrom, idleHolding, readyWith, eachStart, unsound, unsoundIdle}
 
--- ---- packages
-
-abbrev goodText : List ℕ
-goodText = packageText "update,20,1.0.5.0,3,19495,," "abc"
-
--- 9: another action's word
-abbrev illFormedText : List ℕ
-illFormedText = packageText "upgrade,20,1.0.5.0,3,19495,," "abc"
-
--- 10: a byte too many; a byte missing
-abbrev longText : List ℕ
-longText = packageText "update,20,1.0.5.0,2,19495,," "abc"
-
-abbrev shortText : List ℕ
-shortText = packageText "update,20,1.0.5.0,4,19495,," "abc"
-
--- 9 and 10: another action's word, and a byte too many
-abbrev bothText : List ℕ
-bothText = packageText "upgrade,20,1.0.5.0,2,19495,," "abc"
-
--- ---- starts
-
--- Processing, with a package in each state: 1 Transferring with 2 of 4 bytes, 2 Transferred, 3 Processing, 4 Processed, 5 Transferring
--- and full; the store is as long as the areas together
-abbrev eachState : State
-eachState =
-    state
-    processing
-    (transfers
-    (packageOf 1 4 2 1 transferring
-    ∷ packageOf 2 2 2 1 transferred
-    ∷ packageOf 3 3 3 1 beingProcessed
-    ∷ packageOf 4 1 1 1 states.processed
-    ∷ packageOf 5 2 2 1 transferring
-    ∷ [])
-    6)
-    (session (cluster20 ∷ []) (entry 4 (remove 20) ∷ []))
-    (some (kept (install (cluster 30 (version 1 0 0 0) [])) 1 2 0 0 0 0 false))
-
-abbrev eachStart : Start
-eachStart = start eachState (replicate 12 0)
-
--- not sound: the areas are a byte longer than the store; the same in Idle with the first package alone
-abbrev unsound : Start
-unsound = start eachState (replicate 11 0)
-
-abbrev unsoundIdle : Start
-unsoundIdle = idleWith (packageOf 1 4 2 1 transferring ∷ []) 2 3
+-- ---- the calls
 
 -- the twelve calls, each with arguments that the later refusals of its row would refuse
 abbrev badCalls : List Call
@@ -87,8 +39,6 @@ badCalls =
 -- each refused by a number
 abbrev allRefusedBy : ℕ → List Call → List Made
 allRefusedBy number made = map (λ call. call isRefusedBy number) made
-
--- ---- the tables
 
 -- "1. BadState: any call but Load", before every other
 abbrev badState : List Answered
@@ -154,7 +104,7 @@ ofExit =
     ∷ transferExit 5 isRefusedBy 9
     ∷ [])
     -- 9; 10 for each reason; 9 and 10
-    ∷ from idleHolding transferring (goodText ∷ illFormedText ∷ longText ∷ shortText ∷ bothText ∷ [])
+    ∷ from idleHolding transferring (updateText ∷ illFormedText ∷ longText ∷ shortText ∷ bothText ∷ [])
     calls
     (transferExit 2 isRefusedBy 9
     ∷ transferExit 3 isRefusedBy 10
@@ -165,7 +115,7 @@ ofExit =
     -- 5 and 10
     ∷ from idleHolding transferred (longText ∷ []) calls (transferExit 1 isRefusedBy 5 ∷ [])
     -- 8; 8 and 10: the last payload byte is missing
-    ∷ from loadedWith 1 99 calls (callsBeforeLast goodText ++ transferExit 1 isRefusedBy 8 ∷ transferData 1 2 (bytes "c") gives done ∷ transferExit 1 gives done ∷ [])
+    ∷ from loadedWith 1 99 calls (callsBeforeLast updateText ++ transferExit 1 isRefusedBy 8 ∷ transferData 1 2 (bytes "c") gives done ∷ transferExit 1 gives done ∷ [])
     ∷ from loadedWith 1 99 calls (callsBeforeLast longText ++ transferExit 1 isRefusedBy 8 ∷ transferData 1 2 (bytes "c") gives done ∷ transferExit 1 isRefusedBy 10 ∷ [])
     ∷ []
 
@@ -189,9 +139,9 @@ abbrev touchedStart : Start
 touchedStart =
     readyWith
     (cluster20 ∷ cluster 40 (version 1 0 0 0) [] ∷ [])
-    (update (cluster 20 (version 1 0 5 0) []) ∷ remove 40 ∷ install (cluster 30 (version 1 0 0 0) []) ∷ [])
+    (update updated20 ∷ remove 40 ∷ install cluster30 ∷ [])
     (packageText "update,20,1.0.6.0,0,0,," ""
-    ∷ packageText "remove,20,,0,0,," ""
+    ∷ removeText
     ∷ packageText "install,40,1.0.0.0,0,0,," ""
     ∷ packageText "install,30,1.0.0.0,0,0,," ""
     ∷ packageText "update,40,2.0.0.0,0,0,," ""
@@ -218,7 +168,7 @@ abbrev fullAgain : Start
 fullAgain =
     readyWith
     (clusters 64 101)
-    (remove 101 ∷ install (cluster 30 (version 1 0 0 0) []) ∷ [])
+    (remove 101 ∷ install cluster30 ∷ [])
     (packageText "install,101,1.0.0.0,0,0,," "" ∷ packageText "install,31,1.0.0.0,0,0,," "" ∷ [])
 
 -- Process: 2, 3, 4, 5, 9, 10, 11, 12, 13, 14, 15
@@ -247,14 +197,14 @@ ofProcess =
     ∷ process 12 isRefusedBy 10
     ∷ [])
     -- 5 of Transferring packages; 5 and 9; 5 and 10
-    ∷ from idleHolding transferring (goodText ∷ illFormedText ∷ longText ∷ [])
+    ∷ from idleHolding transferring (updateText ∷ illFormedText ∷ longText ∷ [])
     calls
     (process 1 isRefusedBy 5
     ∷ process 2 isRefusedBy 5
     ∷ process 3 isRefusedBy 5
     ∷ [])
     -- 9; 10 for each reason; 9 and 10
-    ∷ from idleHolding transferred (goodText ∷ illFormedText ∷ longText ∷ shortText ∷ bothText ∷ [])
+    ∷ from idleHolding transferred (updateText ∷ illFormedText ∷ longText ∷ shortText ∷ bothText ∷ [])
     calls
     (process 2 isRefusedBy 9
     ∷ process 3 isRefusedBy 10

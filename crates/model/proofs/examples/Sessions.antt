@@ -17,9 +17,9 @@ use Rattle.model.specs.Step.{step}
 use Rattle.model.specs.Run.{Made, acceptedOnly}
 use Rattle.model.specs.Journal.{Direction, noDirection, toActivate, toRevert, toRollback, toFinish, Journal, opened, noted, journal}
 use Rattle.model.specs.Demand3.{sessionGoesOn}
-use Rattle.model.specs.Open.{computing}
+use Rattle.model.proofs.examples.Open.{computing}
 use Rattle.model.proofs.examples.Transcript.{packageText, version, cluster, packageOf, transfers, session, Start, start, loadedWith, _gives_, _isRefusedBy_, callsToTransfer, after}
-use Rattle.model.proofs.examples.Samples.{cluster20}
+use Rattle.model.proofs.examples.Samples.{cluster20, updated20, updateText}
 use Rattle.model.proofs.examples.BenchExamples.{installText}
 
 -- ---- what is seen after a call
@@ -66,18 +66,12 @@ played s store j (m ∷ rest) =
 abbrev loaded : Start
 loaded = loadedWith 1 160
 
-abbrev updateText : List ℕ
-updateText = packageText "update,20,1.0.5.0,3,19495,," "abc"
-
 -- another sum than that of no bytes
 abbrev wrongSumText : List ℕ
 wrongSumText = packageText "remove,30,,0,1,," ""
 
 abbrev installed : Cluster
 installed = cluster 30 (version 1 0 0 0) (record { part = 20; least = version 1 0 4 0 } ∷ [])
-
-abbrev updated : Cluster
-updated = cluster 20 (version 1 0 5 0) []
 
 -- the tables of the list, after the first session, and with the update
 abbrev table0 : Table
@@ -87,7 +81,7 @@ abbrev table1 : Table
 table1 = cluster20 ∷ installed ∷ []
 
 abbrev table2 : Table
-table2 = updated ∷ installed ∷ []
+table2 = updated20 ∷ installed ∷ []
 
 module _ (direction : Direction) (last : ℕ) (b r : Table) (a : List Action) where
   abbrev view : Bool → Bool → Phase → View
@@ -117,7 +111,7 @@ abbrev installing : List Action
 installing = install installed ∷ []
 
 abbrev updating : List Action
-updating = update updated ∷ []
+updating = update updated20 ∷ []
 
 abbrev firstSession : List Line
 firstSession =

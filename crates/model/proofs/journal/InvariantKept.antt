@@ -173,7 +173,7 @@ keeps j ok then (leaves {t} {session} {store} w n {answer} f) i =
       fresh = fresh-told told (i .fresh);
       keptValues = λ z. tt;
     }
-keeps j ok then (is-processed {t} {session} {store} w n c e) i =
+keeps j ok then (is-processed {t} {session} {store} w n c l e) i =
     let entry : Entry = record { id = processingId (t .packages); action = w .action } in
     let told = processed-told j session (t .packages) w n entry refl (i .keptValues refl) (i .tables) in
     record {

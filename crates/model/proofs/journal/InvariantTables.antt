@@ -1,6 +1,6 @@
 -- The tables' part of the invariant: every accepted call keeps it. Assumes nothing.
 use mathlib.Core.Path.{_≡_, refl, sym, ap, ap₂, subst, _∙_}
-use mathlib.Core.Bool.{true, false, cond}
+use mathlib.Core.Bool.{true, false}
 use mathlib.Core.List.{List, [], _∷_, _++_}
 use Prim.Native.Nat.{ℕ}
 use Rattle.clusters.specs.Table.{Table, needsMet}
@@ -10,7 +10,7 @@ use Rattle.model.specs.State.{Package, verifyingRollsBack, activatedRoll
 use Rattle.model.specs.Calls.{Call, process, work, report, Answer, processed, done}
 use Rattle.model.specs.Tables.{staged, runningIn}
 use Rattle.model.specs.Step.{manifestOf, phaseAfter}
-use Rattle.model.specs.Journal.{Direction, toActivate, toRevert, toRollback, toFinish, Journal, isEmpty, actionIn, returned, packageProcessed, packageLeft, reportDone, workNoted, reportNoted, acceptedNoted}
+use Rattle.model.specs.Journal.{Direction, toActivate, toRevert, toRollback, toFinish, Journal, actionIn, returned, packageProcessed, packageLeft, reportDone, workNoted, reportNoted, acceptedNoted}
 use Rattle.model.proofs.transitions.Transitions.{AtRest, in-idle, in-ready, Moves, reverts, activates, rolls-back-verifying, rolls-back-activated, finishes-activated, finishes-rolled-back, activation-fails, needs-missing, is-activated, is-verified, verification-fails, is-rolled-back, rollback-fails, revert-fails, cleaning-activated-fails, cleaning-rolled-back-fails, Ends, after-revert, after-finish, after-rollback, Leaves, by-cancel, by-sum}
 use Rattle.model.proofs.journal.Invariant.{DirectionIn, isRolledBack, TablesAgree, ReadFrom}
 
@@ -118,11 +118,11 @@ module _ (j : Journal) (session : Session) where
       → Told j (packageLeft j) (phaseAfter listed) (record { beginning = session .beginning; listed = listed })
   unfolding packageLeft runningIn
   left-told [] a i =
-      subst (λ (x : List Action). Told j (cond (isEmpty x) (returned j) j) idle (record { beginning = session .beginning; listed = [] }))
+      subst (λ (x : List Action). Told j (elim x as (λ (y : List Action). Journal) [ [] ↦ returned j | a ∷ rest ↦ j ]) idle (record { beginning = session .beginning; listed = [] }))
       (sym a)
       (returns-told j (session .beginning) (i .table))
   left-told (e ∷ listed) a i =
-      subst (λ (x : List Action). Told j (cond (isEmpty x) (returned j) j) ready (record { beginning = session .beginning; listed = e ∷ listed }))
+      subst (λ (x : List Action). Told j (elim x as (λ (y : List Action). Journal) [ [] ↦ returned j | a ∷ rest ↦ j ]) ready (record { beginning = session .beginning; listed = e ∷ listed }))
       (sym a)
       (record {
         tables = record { beginning = i .beginning; listing = a; table = i .table; at-idle = i .at-idle; direction = tt; rolled-back = i .rolled-back };
@@ -134,7 +134,7 @@ module _ (j : Journal) (session : Session) where
       → Told j (acceptedNoted (work n) answer j) (phaseAfter (session .listed)) session
   unfolding acceptedNoted workNoted
   leaves-told (by-cancel c) i = left-told (session .listed) (i .listing) i
-  leaves-told (by-sum c e) i = left-told (session .listed) (i .listing) i
+  leaves-told (by-sum c l e) i = left-told (session .listed) (i .listing) i
 
   ready-after : (listed : List Entry) (e : Entry) → phaseAfter (listed ++ e ∷ []) ≡ ready
   ready-after [] e = refl

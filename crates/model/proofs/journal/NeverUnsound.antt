@@ -1,6 +1,6 @@
 -- No call on a sound state is refused by 1: no other refusal has that number. Assumes nothing.
-use mathlib.Core.Path.{_≡_, refl, ap}
-use mathlib.Core.Bool.{Bool, true, false, not, cond, _||_}
+use mathlib.Core.Path.{_≡_, refl, sym, _∙_}
+use mathlib.Core.Bool.{Bool, true, false, cond, _||_}
 use mathlib.Core.List.{List, [], _∷_}
 use mathlib.Core.Option.{some}
 use Prim.Native.Nat.{ℕ}
@@ -12,7 +12,8 @@ use Rattle.clusters.specs.Action.{actionRefusals}
 use Rattle.model.specs.State.{State, Store}
 use Rattle.model.specs.Calls.{Call, transferStart, transferData, transferExit, deleteTransfer, process, work, cancel, revert, activate, rollback, finish, report, refused}
 use Rattle.model.specs.Sound.{sound}
-use Rattle.model.specs.Step.{ownRefusals, refusals, step}
+use Rattle.model.specs.Step.{ownRefusals, furtherRefusals, refusals, step}
+use Rattle.model.proofs.soundness.Accepted.{sound-decided}
 use Rattle.model.proofs.transitions.Accepting.{accepted-is}
 use Rattle.model.proofs.transitions.Refused.{step-cases, not-refused}
 
@@ -48,15 +49,11 @@ own-not-one s store rollback = refl
 own-not-one s store finish = refl
 own-not-one s store (report good) = refl
 
-past-first : (r : Refusal) (rs : List Refusal) (number : ℕ) → r .applies ≡ false → firstRefusal (r ∷ rs) ≡ some number
-    → firstRefusal rs ≡ some number
-unfolding firstRefusal
-past-first r rs number h e = rw h at e
-
 -- behind the first refusal none has the number 1
 not-one : (s : State) (store : Store) (call : Call) → sound s store ≡ true → firstRefusal (refusals s store call) ≡ some 1 → ⊥
-unfolding refusals hasNumber
-not-one s store call h e = clash (first-listed 1 _ (past-first _ _ 1 (ap not h) e)) (own-not-one s store call)
+unfolding furtherRefusals hasNumber
+not-one s store call h e =
+    clash (first-listed 1 (furtherRefusals s store call) (sym (sound-decided s store call h) ∙ e)) (own-not-one s store call)
 
 pub never-unsound : (s : State) (store : Store) (call : Call) → sound s store ≡ true → step s store call .reply ≡ refused 1 → ⊥
 never-unsound s store call h =

@@ -83,7 +83,7 @@ return-is j ok (processes id y m rest e h5 h9 h) i p q = absurd (false≢true q)
 return-is j ok (works-on w n c l) i p q = absurd (false≢true q)
 return-is j ok (leaves {session = session} w n f) i p q =
     left-return j session (work n) (session .listed) (i .tables .beginning) (i .tables .listing) q
-return-is j ok (is-processed {session = session} w n c e) i p q = clash q (last-busy (session .listed) _)
+return-is j ok (is-processed {session = session} w n c l e) i p q = clash q (last-busy (session .listed) _)
 return-is j ok (cancels w id e) i p q = absurd (false≢true q)
 return-is j ok (moves g) i p q = clash q (moves-elsewhere g .0)
 return-is j ok (ends g) i p q = unfold runningIn in ends-return j g (i .tables) (ok .turn) (ok .fits)
@@ -102,7 +102,7 @@ beginning-stays (deletes id y e h5 h) q = refl
 beginning-stays (processes id y m rest e h5 h9 h) q = refl
 beginning-stays (works-on w n c l) q = refl
 beginning-stays (leaves w n f) q = refl
-beginning-stays (is-processed w n c e) q = refl
+beginning-stays (is-processed w n c l e) q = refl
 beginning-stays (cancels w id e) q = refl
 beginning-stays (moves g) q = refl
 beginning-stays (ends g) (inl e) = absurd (false≢true e)

@@ -18,7 +18,7 @@ use Rattle.model.specs.State.{transferred, Package, cleaningUp, readyCle
 use Rattle.model.specs.Calls.{Call, done, transferStart, transferData, transferExit, deleteTransfer, process, work, cancel, revert, activate, rollback, finish, report}
 use Rattle.model.specs.Areas.{packageOf, areaOf, inState, withBlock, isTransferring, isBeingProcessed, isProcessed, processingId, find}
 use Rattle.model.specs.Sound.{sound, keptSound}
-use Rattle.model.specs.Step.{Outcome, movesTo, outcome, withCancelNoted, areaRead, manifestOf, ownRefusals, refusals, workOn, taken, sumCompared, worked, act, settled, step}
+use Rattle.model.specs.Step.{Outcome, movesTo, outcome, withCancelNoted, areaRead, manifestOf, ownRefusals, furtherRefusals, refusals, workOn, taken, sumCompared, worked, act, settled, step}
 use Rattle.model.proofs.soundness.SoundFacts.{Sound, sound-says, sound-is}
 use Rattle.model.proofs.soundness.Packages.{Fine, known-is, found-fine}
 use Rattle.model.proofs.soundness.FinePackage.{transferring-is, transferred-is, part, fine-in-state, fine-with-block}
@@ -150,7 +150,7 @@ module _ (s : State) (store : Store) (ok : Sound s store) where
 module _ (s : State) (store : Store) where
   -- Process is not refused as busy
   process-outside : (id : ℕ) → firstRefusal (refusals s store (process id)) ≡ none → isProcessing (s .phase) ≡ false
-  unfolding refusals
+  unfolding refusals furtherRefusals
   process-outside id h = first-passed _ _ (rest-passed _ _ h)
 
   by-call : (call : Call) → Sound s store → firstRefusal (refusals s store call) ≡ none → SoundAfter (act s store call)

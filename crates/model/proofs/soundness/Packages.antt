@@ -28,6 +28,15 @@ known-is id ps = go (find id ps)
     go none h = absurd (true≢false h)
     go (some p) h = refl
 
+-- and a package that is found is that of `packageOf`
+module _ (id : ℕ) (ps : List Package) (p : Package) (e : find id ps ≡ some p) where
+  pub found-known : unknown id ps ≡ false
+  found-known = rw (unknown, e)
+
+  pub found-is : packageOf id ps ≡ p
+  unfolding packageOf
+  found-is = rw (packageOf, e)
+
 -- what a package says for itself, wherever it stands
 pub record Fine (next : ℕ) (p : Package) : Type 0 where
   pub below : p .id < next

@@ -1,5 +1,5 @@
 -- Soundness, a test in the definitions, as a record of named facts: taken apart and put together. Assumes nothing.
-use mathlib.Core.Path.{_≡_}
+use mathlib.Core.Path.{_≡_, ap}
 use mathlib.Core.Bool.{true, cond}
 use mathlib.Core.List.{List, [], _∷_}
 use native.Mathlib.Omega.{arith}
@@ -14,7 +14,7 @@ use Rattle.clusters.specs.Action.{passes, passInTurn, actionWithin, actionsWith
 use Rattle.model.specs.State.{Package, isProcessing, Session, Work, State, Store, actions}
 use Rattle.model.specs.Areas.{declared, packageOf, isBeingProcessed, isProcessed, countIn, processingId}
 use Rattle.model.specs.Tables.{staged}
-use Rattle.model.specs.Sound.{storeMost, packagesMost, idMost, storeSound, receivedSound, packageSound, packagesRise, transfersSound, processedAsListed, listSound, sessionSound, workSound, keptSound, processingSound, listFits, sound}
+use Rattle.model.specs.Sound.{storeMost, packagesMost, idMost, storeSound, receivedSound, packageSound, packagesRise, transfersSound, processedAsListed, listSound, sessionSound, workSound, keptSound, processingSound, listFits, soundFor, sound}
 
 -- ---- a package, and those behind it
 
@@ -106,13 +106,17 @@ pub record Sound (s : State) (store : Store) : Type 0 where
   pub processing : countIn isBeingProcessed (s .transfers .packages) ≡ cond (isProcessing (s .phase)) 1 0
   pub fits : listFits (s .phase) (s .session .listed) ≡ true
 
+-- "The store's bytes play no part in it.": stores of one length are sound alike
+pub sound-by-length : (s : State) (a b : Store) → length a ≡ length b → sound s a ≡ sound s b
+sound-by-length s a b e = ap (soundFor s) e
+
 module _ (s : State) (store : Store) where
   pub sound-says : sound s store ≡ true → Sound s store
-  unfolding sound storeSound transfersSound sessionSound listSound processingSound
+  unfolding soundFor storeSound transfersSound sessionSound listSound processingSound
   sound-says h =
       let ps = s .transfers .packages in
-      let store-sound = and-left (storeSound ps store) _ h in
-      let h = and-right (storeSound ps store) _ h in
+      let store-sound = and-left (storeSound ps (length store)) _ h in
+      let h = and-right (storeSound ps (length store)) _ h in
       let transfers = and-left (transfersSound (s .transfers)) _ h in
       let begun = and-right (leb (length ps) packagesMost) _ transfers in
       let ids = and-right (leb 1 (s .transfers .next)) _ begun in
@@ -141,10 +145,10 @@ module _ (s : State) (store : Store) where
       }
 
   pub sound-is : Sound s store → sound s store ≡ true
-  unfolding sound storeSound transfersSound sessionSound listSound processingSound
+  unfolding soundFor storeSound transfersSound sessionSound listSound processingSound
   sound-is f =
       let ps = s .transfers .packages in
-      and-both (storeSound ps store) _ (and-both _ _ (le-leb _ _ (f .room)) (le-leb _ _ (f .fit)))
+      and-both (storeSound ps (length store)) _ (and-both _ _ (le-leb _ _ (f .room)) (le-leb _ _ (f .fit)))
       (and-both (transfersSound (s .transfers)) _
       (and-both _ _ (le-leb _ _ (f .few)) (and-both _ _ (le-leb _ _ (f .begun)) (and-both _ _ (le-leb _ _ (f .ids)) (f .rise))))
       (and-both (sessionSound (s .session)) _ (and-both _ _ (f .beginning) (and-both _ _ (f .within) (f .turn)))

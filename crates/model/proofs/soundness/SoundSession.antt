@@ -59,7 +59,7 @@ each-phase test h phase =
     ]
 
 -- the table of permissions at a call's number
-abbrev allowedAt : ℕ → ℕ → Bool
+abbrev pub allowedAt : ℕ → ℕ → Bool
 allowedAt call n = getD (getD permissions n []) call false
 
 implied : (a b : Bool) → not a || b ≡ true → a ≡ true → b ≡ true

@@ -4,7 +4,7 @@ use mathlib.Core.Bool.{Bool, true, false, false≢true}
 use mathlib.Core.Option.{Option, none, some}
 use Prim.Native.Nat.{ℕ, _+_}
 use lib.Dec.{eqb, ltb}
-use borrow.Author.Tests.{ltb-true, eqb-true, not-false}
+use borrow.Author.Tests.{ltb-true, ltb-false, eqb-true, not-false}
 use Rattle.base.specs.Refusals.{firstRefusal}
 use Rattle.base.proofs.Tests.{bool-cases, cond-cases}
 use Rattle.checksum.specs.Sum.{sumNumber}
@@ -47,7 +47,8 @@ module _ (t : Transfers) (session : Session) (store : Store) where
       let P : Outcome → Type 0 = Accepted (state processing t session (some w)) store (work n) in
       cond-cases P (w .cancelNoted) _ _ (λ c. leaves w n (by-cancel c)) λ c.
       cond-cases P (ltb (w .done + taken w n) (w .count)) _ _ (λ l. works-on w n c (ltb-true _ _ l)) λ l.
-      cond-cases P (eqb (sumNumber (after w n .runningSums)) (w .sum)) _ _ (λ e. is-processed w n c e) λ e. leaves w n (by-sum c e)
+      cond-cases P (eqb (sumNumber (after w n .runningSums)) (w .sum)) _ _ (λ e. is-processed w n c (ltb-false _ _ l) e)
+      λ e. leaves w n (by-sum c (ltb-false _ _ l) e)
 
   work-is : (k : Option Work) (n : ℕ) → keptSound processing session (t .packages) k ≡ true
       → Accepted (state processing t session k) store (work n) (act (state processing t session k) store (work n))

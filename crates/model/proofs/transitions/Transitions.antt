@@ -53,7 +53,7 @@ pub data Ends (session : Session) : CleanUpOrigin → Table → Type 0 where
 -- Work's endings that leave the package Transferred
 pub data Leaves (s : State) (store : Store) (w : Work) (n : ℕ) : Answer → Type 0 where
   by-cancel : w .cancelNoted ≡ true → Leaves s store w n cancelled
-  by-sum : w .cancelNoted ≡ false
+  by-sum : w .cancelNoted ≡ false → w .count ≤ w .done + taken w n
       → eqb (sumNumber (workOn w n (areaOf (processingId (s .transfers .packages)) (s .transfers .packages) store) .runningSums)) (w .sum) ≡ false
       → Leaves s store w n calls.inconsistent
 
@@ -102,6 +102,7 @@ pub data Accepted : State → Store → Call → Outcome → Type 0 where
       → Accepted (state processing t session (some w)) store (work n)
       (endsProcessing (state processing t session (some w)) store answer transferred (session .listed))
   is-processed : {t : Transfers} {session : Session} {store : Store} (w : Work) (n : ℕ) → w .cancelNoted ≡ false
+      → w .count ≤ w .done + taken w n
       → eqb (sumNumber (workOn w n (areaOf (processingId (t .packages)) (t .packages) store) .runningSums)) (w .sum) ≡ true
       → Accepted (state processing t session (some w)) store (work n)
       (endsProcessing (state processing t session (some w)) store processed states.processed (listedWith (state processing t session (some w)) store w))

@@ -6,6 +6,7 @@ pub mod BenchExamples
 pub mod Loads
 pub mod Refusals
 pub mod Boundaries
+pub mod Soundness
 pub mod Permitted
 pub mod Answers
 pub mod Sessions

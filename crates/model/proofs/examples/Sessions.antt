@@ -18,7 +18,7 @@ use Rattle.model.specs.Run.{Made, acceptedOnly}
 use Rattle.model.specs.Journal.{Direction, noDirection, toActivate, toRevert, toRollback, toFinish, Journal, opened, noted, journal}
 use Rattle.model.specs.Demand3.{sessionGoesOn}
 use Rattle.model.proofs.examples.Open.{computing}
-use Rattle.model.proofs.examples.Transcript.{packageText, version, cluster, packageOf, transfers, session, Start, start, loadedWith, _gives_, _isRefusedBy_, callsToTransfer, after}
+use Rattle.model.proofs.examples.Transcript.{packageText, version, cluster, need, packageOf, transfers, session, Start, start, loadedWith, _gives_, _isRefusedBy_, callsToTransfer, after}
 use Rattle.model.proofs.examples.Samples.{cluster20, updated20, updateText}
 use Rattle.model.proofs.examples.BenchExamples.{installText}
 
@@ -34,18 +34,21 @@ pub record View : Type 0 where
   pub R : Table
   pub A : List Action
 
-abbrev viewOf : Phase → Journal → View
-viewOf phase j =
+abbrev view : Phase → Direction → ℕ → Bool → Bool → Table → Table → List Action → View
+view phase direction last completed isIdle b r a =
     record {
       phase = phase;
-      direction = j .direction;
-      lastProcess = j .lastProcess;
-      rollbackCompleted = j .rollbackCompleted;
-      isIdle = j .isIdle;
-      B = j .B;
-      R = j .R;
-      A = j .A;
+      direction = direction;
+      lastProcess = last;
+      rollbackCompleted = completed;
+      isIdle = isIdle;
+      B = b;
+      R = r;
+      A = a;
     }
+
+abbrev viewOf : Phase → Journal → View
+viewOf phase j = view phase (j .direction) (j .lastProcess) (j .rollbackCompleted) (j .isIdle) (j .B) (j .R) (j .A)
 
 -- a call with its answer, and what is seen after it
 pub record Line : Type 0 where
@@ -71,7 +74,7 @@ abbrev wrongSumText : List ℕ
 wrongSumText = packageText "remove,30,,0,1,," ""
 
 abbrev installed : Cluster
-installed = cluster 30 (version 1 0 0 0) (record { part = 20; least = version 1 0 4 0 } ∷ [])
+installed = cluster 30 (version 1 0 0 0) (need 20 (version 1 0 4 0) ∷ [])
 
 -- the tables of the list, after the first session, and with the update
 abbrev table0 : Table
@@ -84,28 +87,15 @@ abbrev table2 : Table
 table2 = updated20 ∷ installed ∷ []
 
 module _ (direction : Direction) (last : ℕ) (b r : Table) (a : List Action) where
-  abbrev view : Bool → Bool → Phase → View
-  view completed isIdle phase =
-      record {
-        phase = phase;
-        direction = direction;
-        lastProcess = last;
-        rollbackCompleted = completed;
-        isIdle = isIdle;
-        B = b;
-        R = r;
-        A = a;
-      }
-
   -- after each of these calls the same is seen: in a session; after its completed Rollback; Idle
   abbrev during : Phase → List Made → List Line
-  during phase transcript = map (λ m. record { made = m; seen = view false false phase }) transcript
+  during phase made = map (λ m. record { made = m; seen = view phase direction last false false b r a }) made
 
   abbrev undone : Phase → List Made → List Line
-  undone phase transcript = map (λ m. record { made = m; seen = view true false phase }) transcript
+  undone phase made = map (λ m. record { made = m; seen = view phase direction last true false b r a }) made
 
   abbrev between : List Made → List Line
-  between transcript = map (λ m. record { made = m; seen = view false true idle }) transcript
+  between made = map (λ m. record { made = m; seen = view idle direction last false true b r a }) made
 
 abbrev installing : List Action
 installing = install installed ∷ []

@@ -14,7 +14,7 @@ use Rattle.clusters.specs.Cluster.{Cluster}
 use Rattle.clusters.specs.Table.{Table}
 use Rattle.clusters.specs.Action.{Action}
 use Rattle.model.specs.State.{PackageState, Package, Transfers, Entry, Session, Work, State, Store}
-use Rattle.model.specs.Calls.{Call, transferStart, transferData, transferExit, process, work, activate, finish, report, Answer, givenId, done, processed, refused, accepted}
+use Rattle.model.specs.Calls.{Call, transferStart, transferData, transferExit, process, work, activate, report, Answer, givenId, done, processed, refused, accepted}
 use Rattle.model.specs.Load.{load, loadedState}
 use Rattle.model.specs.Run.{Made, Run, run, callsOf}
 
@@ -114,10 +114,6 @@ callsToProcess id n = process id gives done ∷ work n gives processed ∷ []
 -- Ready to Verifying
 abbrev pub callsToVerifying : List Made
 callsToVerifying = activate gives done ∷ report true gives done ∷ []
-
--- Verifying to Activated, and the end of the session
-abbrev pub callsToFinish : List Made
-callsToFinish = report true gives done ∷ finish gives done ∷ report true gives done ∷ []
 
 -- ---- cases
 

@@ -8,11 +8,12 @@ use mathlib.Core.Bool.{Bool, true, false}
 use mathlib.Core.List.{List, [], _∷_, _++_, map}
 use mathlib.Core.Option.{none}
 use lib.ListN.{replicate}
+use Rattle.base.specs.Quoted.{bytes}
 use Rattle.clusters.specs.Cluster.{Cluster}
 use Rattle.clusters.specs.Table.{Table}
 use Rattle.clusters.specs.Action.{Action, install, update}
 use Rattle.model.specs.State.{transferred, verifyingRollsBack, activatedRollsBack, readyCleansUp, activatedCleansUp, rolledBackCleansUp, Phase, idle, ready, processing, activating, verifying, activated, rollingBack, rolledBack, cleaningUp, State, Store, state}
-use Rattle.model.specs.Calls.{Call, process, work, cancel, revert, activate, rollback, finish, report, done, working, processed, cancelled, inconsistent, preActivationFailed, verificationFailed, notAbleToRollback, notAbleToRevert, cleaningFailed}
+use Rattle.model.specs.Calls.{Call, transferStart, transferData, transferExit, deleteTransfer, process, work, cancel, revert, activate, rollback, finish, report, givenId, done, working, processed, cancelled, inconsistent, preActivationFailed, verificationFailed, notAbleToRollback, notAbleToRevert, cleaningFailed}
 use Rattle.model.specs.Step.{step}
 use Rattle.model.specs.Run.{Made, acceptedOnly}
 use Rattle.model.specs.Journal.{Direction, noDirection, toActivate, toRevert, toRollback, toFinish, Journal, opened, noted, journal}
@@ -24,8 +25,8 @@ use Rattle.model.proofs.examples.BenchExamples.{installText}
 
 -- ---- what is seen after a call
 
-pub record View : Type 0 where
-  pub phase : Phase
+-- what the journal says, but for the blocks
+pub record Notes : Type 0 where
   pub direction : Direction
   pub lastProcess : ℕ
   pub rollbackCompleted : Bool
@@ -34,26 +35,21 @@ pub record View : Type 0 where
   pub R : Table
   pub A : List Action
 
-abbrev view : Phase → Direction → ℕ → Bool → Bool → Table → Table → List Action → View
-view phase direction last completed isIdle b r a =
-    record {
-      phase = phase;
-      direction = direction;
-      lastProcess = last;
-      rollbackCompleted = completed;
-      isIdle = isIdle;
-      B = b;
-      R = r;
-      A = a;
-    }
+abbrev notes : Direction → ℕ → Bool → Bool → Table → Table → List Action → Notes
+notes direction last completed isIdle b r a =
+    record { direction = direction; lastProcess = last; rollbackCompleted = completed; isIdle = isIdle; B = b; R = r; A = a }
 
-abbrev viewOf : Phase → Journal → View
-viewOf phase j = view phase (j .direction) (j .lastProcess) (j .rollbackCompleted) (j .isIdle) (j .B) (j .R) (j .A)
+abbrev notesOf : Journal → Notes
+notesOf j = notes (j .direction) (j .lastProcess) (j .rollbackCompleted) (j .isIdle) (j .B) (j .R) (j .A)
 
--- a call with its answer, and what is seen after it
+-- a call with its answer, the manager's state after it, and what the journal says then
 pub record Line : Type 0 where
   pub made : Made
-  pub seen : View
+  pub phase : Phase
+  pub noted : Notes
+
+abbrev line : Phase → Notes → Made → Line
+line phase n m = record { made = m; phase = phase; noted = n }
 
 -- the calls of a transcript, made from a state, store and journal on
 abbrev played : State → Store → Journal → List Made → List Line
@@ -62,7 +58,7 @@ played s store j (m ∷ rest) =
     let o = step s store (m .call) in
     let made : Made = record { call = m .call; reply = o .reply } in
     let later = noted made j in
-    record { made = made; seen = viewOf (o .state .phase) later } ∷ played (o .state) (o .store) later rest
+    line (o .state .phase) (notesOf later) made ∷ played (o .state) (o .store) later rest
 
 -- ---- the sessions
 
@@ -87,15 +83,15 @@ abbrev table2 : Table
 table2 = updated20 ∷ installed ∷ []
 
 module _ (direction : Direction) (last : ℕ) (b r : Table) (a : List Action) where
-  -- after each of these calls the same is seen: in a session; after its completed Rollback; Idle
+  -- after each of these calls the same is said: in a session; after its completed Rollback; Idle
   abbrev during : Phase → List Made → List Line
-  during phase made = map (λ m. record { made = m; seen = view phase direction last false false b r a }) made
+  during phase made = map (line phase (notes direction last false false b r a)) made
 
   abbrev undone : Phase → List Made → List Line
-  undone phase made = map (λ m. record { made = m; seen = view phase direction last true false b r a }) made
+  undone phase made = map (line phase (notes direction last true false b r a)) made
 
   abbrev between : List Made → List Line
-  between made = map (λ m. record { made = m; seen = view idle direction last false true b r a }) made
+  between made = map (line idle (notes direction last false true b r a)) made
 
 abbrev installing : List Action
 installing = install installed ∷ []
@@ -163,7 +159,14 @@ fifthSession =
     ++ during toRevert 5 table1 table1 [] processing (process 5 gives done ∷ [])
     ++ during toRevert 5 table1 table1 updating ready (work 3 gives processed ∷ [])
     ++ during toActivate 5 table1 table1 updating activating (activate gives done ∷ [])
-    ++ during toActivate 5 table1 table2 updating verifying (report true gives done ∷ [])
+    ++ during toActivate 5 table1 table2 updating verifying
+    (report true gives done
+    ∷ transferStart 3 gives givenId 6
+    ∷ transferData 6 1 (bytes "ab") gives done
+    ∷ transferExit 6 isRefusedBy 8
+    ∷ transferData 6 2 (bytes "c") gives done
+    ∷ deleteTransfer 6 gives done
+    ∷ [])
     ++ during toActivate 5 table1 table2 updating activated (report true gives done ∷ [])
     ++ during toFinish 5 table1 table2 updating (cleaningUp activatedCleansUp) (finish gives done ∷ [])
     ++ between toFinish 5 table2 table2 [] (report true gives done ∷ [])
@@ -174,11 +177,11 @@ allSessions = firstSession ++ secondSession ++ thirdSession ++ fourthSession ++ 
 abbrev transcript : List Line → List Made
 transcript lines = map (λ l. l .made) lines
 
--- the journal's joined blocks of the first six ids, in the end
+-- the journal's joined blocks of the ids given, and of the next, in the end
 abbrev joinedBlocks : List (List ℕ)
 joinedBlocks =
     let j = journal (opened table0) (transcript allSessions) in
-    map (λ id. j .blocks id) (1 ∷ 2 ∷ 3 ∷ 4 ∷ 5 ∷ 6 ∷ [])
+    map (λ id. j .blocks id) (1 ∷ 2 ∷ 3 ∷ 4 ∷ 5 ∷ 6 ∷ 7 ∷ [])
 
 -- whether the session goes on with these calls, once the first package is transferred
 abbrev goesOn : List Call → Bool
@@ -186,13 +189,29 @@ goesOn made =
     let r = after loaded (callsToTransfer 1 installText) in
     sessionGoesOn (r .state) (r .store) made
 
+-- a list that no manager answers so: a package is processed while the staged table runs
+abbrev madeUp : List Made
+madeUp =
+    transferData 1 1 installText gives done
+    ∷ process 1 gives done
+    ∷ work 9 gives processed
+    ∷ activate gives done
+    ∷ report true gives done
+    ∷ transferData 2 1 updateText gives done
+    ∷ process 2 gives done
+    ∷ work 9 gives processed
+    ∷ []
+
 pub record Sessions : Type 0 where
   pub answers : played (loaded .state) (loaded .store) (opened table0) (transcript allSessions) ≡ allSessions
   -- each session's packages are gone from the store; the one that was never Processed is left, from byte 0 on
   pub leaves : (let r = after loaded (transcript allSessions) in start (r .state) (r .store))
-      ≡ start (state idle (transfers (packageOf 4 65 65 2 transferred ∷ []) 6) (session table2 []) none) (wrongSumText ++ replicate 95 0)
+      ≡ start (state idle (transfers (packageOf 4 65 65 2 transferred ∷ []) 7) (session table2 []) none) (wrongSumText ++ replicate 95 0)
   -- "its accepted blocks, joined", by id; those of deleted packages stay in the journal
-  pub blocks : joinedBlocks ≡ installText ∷ updateText ∷ updateText ∷ wrongSumText ∷ updateText ∷ [] ∷ []
+  pub blocks : joinedBlocks ≡ installText ∷ updateText ∷ updateText ∷ wrongSumText ∷ updateText ∷ bytes "abc" ∷ [] ∷ []
+  -- "Its book sees each call and its answer, nothing of the state.": what a call does not name in it stays
+  pub staysOtherwise : notesOf (journal (opened table0) madeUp)
+      ≡ notes toActivate 2 false false table0 table1 (install installed ∷ update updated20 ∷ [])
   -- "The list without its refused calls"
   pub withoutRefused : acceptedOnly (process 2 isRefusedBy 4 ∷ process 1 gives done ∷ work 0 isRefusedBy 3 ∷ work 9 gives processed ∷ [])
       ≡ process 1 gives done ∷ work 9 gives processed ∷ []
@@ -207,4 +226,4 @@ pub record Sessions : Type 0 where
 
 pub sessions : Sessions
 unfolding computing sessionGoesOn
-sessions = record { answers = refl; leaves = refl; blocks = refl; withoutRefused = refl; goingOn = refl }
+sessions = record { answers = refl; leaves = refl; blocks = refl; staysOtherwise = refl; withoutRefused = refl; goingOn = refl }

@@ -4,6 +4,5 @@ pub mod store
 pub mod transitions
 pub mod journal
 pub mod examples
-pub mod Reports
-pub mod LongestChangeInfo
+pub mod reading
 pub mod Claims

@@ -4,4 +4,7 @@ pub mod LengthKept
 pub mod Contents
 pub mod ContentsBlock
 pub mod AreaLaws
+pub mod AreaStart
+pub mod PackageAtIndex
+pub mod BlocksCommute
 pub mod StoreStays

@@ -32,6 +32,11 @@ noPackage = newPackage 0 0
 unfoldable pub packageOf : ℕ → List Package → Package
 packageOf id ps = elim (find id ps) [ none ↦ noPackage | some p ↦ p ]
 
+-- where the area of the package with an id starts: behind those of the packages before it
+unfoldable pub areaStart : ℕ → List Package → ℕ
+areaStart id [] = 0
+areaStart id (p ∷ ps) = cond (eqb id (p .id)) 0 (p .size + areaStart id ps)
+
 -- the area of the package with an id
 unfoldable pub areaOf : ℕ → List Package → Store → List ℕ
 areaOf id [] store = []

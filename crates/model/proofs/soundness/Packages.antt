@@ -1,7 +1,7 @@
 -- Packages in rising order of their ids: a package found, one started behind the others, one changed, and those kept by a
 -- choice. Assumes nothing.
 use mathlib.Core.Path.{_≡_, refl, sym, ap, subst, _∙_}
-use mathlib.Core.Bool.{Bool, true, false, true≢false}
+use mathlib.Core.Bool.{Bool, true, false, cond, true≢false}
 use mathlib.Core.List.{List, [], _∷_, _++_}
 use mathlib.Core.Option.{Option, none, some}
 use Prim.Native.Nat.{ℕ, suc, _+_, _≤_, _<_}
@@ -36,6 +36,30 @@ module _ (id : ℕ) (ps : List Package) (p : Package) (e : find id ps ≡ some p
   pub found-is : packageOf id ps ≡ p
   unfolding packageOf
   found-is = rw (packageOf, e)
+
+-- after a change of the package with an id, that package is found changed and the others as they were
+module _ (id : ℕ) (change : Package → Package) (same-id : (q : Package) → change q .id ≡ q .id) where
+  pub find-changed : (ps : List Package) (p : Package) → find id ps ≡ some p → find id (changed id change ps) ≡ some (change p)
+  unfolding find changed
+  find-changed [] p e = none-some e
+  find-changed (q ∷ ps) p e =
+      let ih : find id ps ≡ some p → find id (changed id change ps) ≡ some (change p) = find-changed ps p in
+      bool-cases (eqb id (q .id))
+      (λ b. let same : q ≡ p = cc (rw b at e) in
+      let there : eqb id (change q .id) ≡ true = ap (eqb id) (same-id q) ∙ b in
+      rw (b, there) (ap (λ (y : Package). some (change y)) same))
+      λ b. rw b (rw b (ih (rw b at e)))
+
+  pub find-changed-other : (other : ℕ) → eqb other id ≡ false → (ps : List Package) → find other (changed id change ps) ≡ find other ps
+  unfolding find changed
+  find-changed-other other apart [] = refl
+  find-changed-other other apart (q ∷ ps) =
+      let ih = find-changed-other other apart ps in
+      bool-cases (eqb id (q .id))
+      (λ b. let n : eqb other (q .id) ≡ false = subst (λ (x : ℕ). eqb other x ≡ false) (eqb-true id (q .id) b) apart in
+      let there : eqb other (change q .id) ≡ false = ap (eqb other) (same-id q) ∙ n in
+      rw (b, there, n))
+      λ b. rw b (ap (cond (eqb other (q .id)) (some q)) ih)
 
 -- what a package says for itself, wherever it stands
 pub record Fine (next : ℕ) (p : Package) : Type 0 where

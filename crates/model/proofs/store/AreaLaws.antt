@@ -26,10 +26,10 @@ declared-plus-free s store h = let ok = sound-says s store h in omega (arith, ok
 
 -- ---- a store whose first area is known
 
-take-front : (size : ℕ) (store rest : List ℕ) → size ≤ length store → take size (take size store ++ rest) ≡ take size store
+pub take-front : (size : ℕ) (store rest : List ℕ) → size ≤ length store → take size (take size store ++ rest) ≡ take size store
 take-front size store rest h = take-at (take size store) rest size (length-take-le size store h)
 
-drop-front : (size : ℕ) (store rest : List ℕ) → size ≤ length store → drop size (take size store ++ rest) ≡ rest
+pub drop-front : (size : ℕ) (store rest : List ℕ) → size ≤ length store → drop size (take size store ++ rest) ≡ rest
 drop-front size store rest h = drop-at (take size store) rest size (length-take-le size store h)
 
 drop-take : (n more : ℕ) (l : List ℕ) → n ≤ length l → drop n (take (n + more) l) ≡ take more (drop n l)

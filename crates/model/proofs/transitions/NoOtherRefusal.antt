@@ -59,14 +59,7 @@ unfolding allowed
 at-rest phase in-idle id = (refl, refl)
 at-rest phase in-ready id = (refl, refl)
 
--- a package text that is read
-module _ (read : PackageRead) (m : Manifest) (e : read ≡ consistent m) where
-  not-ill-formed : isIllFormed read ≡ false
-  not-ill-formed = ap isIllFormed e
-
-  not-inconsistent : isInconsistent read ≡ false
-  not-inconsistent = ap isInconsistent e
-
+-- the transfer calls are allowed "always": in each row of the table
 module _ (s : State) (store : Store) (h : sound s store ≡ true) where
   abbrev ps : List Package
   ps = s .transfers .packages
@@ -99,7 +92,7 @@ module _ (s : State) (store : Store) (h : sound s store ≡ true) where
         (goes-on _ _ (found-known id ps p e)
         (goes-on _ _ (rw (found-is id ps p e, h5))
         (goes-on _ _ (rw (found-is id ps p e, le-ltb _ _ h8))
-        (goes-on _ _ (not-ill-formed _ m h9) (goes-on _ _ (not-inconsistent _ m h9) nothing-left)))))
+        (goes-on _ _ (ap isIllFormed h9) (goes-on _ _ (ap isInconsistent h9) nothing-left)))))
 
     does-delete : isBeingProcessed (p .state) ≡ false → isProcessed (p .state) ≡ false
         → step s store (deleteTransfer id) ≡ act s store (deleteTransfer id)
@@ -113,12 +106,12 @@ module _ (s : State) (store : Store) (h : sound s store ≡ true) where
       → step s store (process id) ≡ act s store (process id)
   unfolding ownRefusals passes
   does-process id p m rest e h5 h9 h11 =
-      let free = at-rest (s .phase) rest id in
-      does s store h (process id) (free .0) (free .1)
+      let allows = at-rest (s .phase) rest id in
+      does s store h (process id) (allows .0) (allows .1)
       (goes-on _ _ (found-known id ps p e)
       (goes-on _ _ (rw (found-is id ps p e, h5))
-      (goes-on _ _ (not-ill-formed _ m h9)
-      (goes-on _ _ (not-inconsistent _ m h9)
+      (goes-on _ _ (ap isIllFormed h9)
+      (goes-on _ _ (ap isInconsistent h9)
       (ap
       (λ (read : PackageRead). firstRefusal (actionRefusals (staged (s .session)) (actions (s .session .listed)) (manifestOf read .action)))
       h9

@@ -1,5 +1,6 @@
 -- Every way in which a call can be accepted, once: `Accepted s store call o` has a constructor for each, with the facts that the
--- call's refusals leave and the outcome `o`. What is shown of every accepted call is a clause for each of them.
+-- call's refusals leave and the outcome `o`. What is shown of every accepted call is a clause for each of them. `Accepting` shows that a
+-- call which no refusal stops is one of them, `NoOtherRefusal` that on a sound state each of them is what the call does.
 use mathlib.Core.Path.{_≡_, refl}
 use mathlib.Core.Bool.{Bool, true, false, not}
 use mathlib.Core.List.{List, [], _∷_, _++_}

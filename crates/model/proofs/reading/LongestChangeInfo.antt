@@ -1,5 +1,5 @@
 -- The longest ChangeInfo is reached: a sound state whose session has 16 packages processed, each a remove of a cluster whose part number
--- has ten digits, has a ChangeInfo of `changeInfoMost` bytes. That none is longer is `change-info-most` of Reports. Assumes nothing.
+-- has ten digits, has a ChangeInfo of `changeInfoMost` bytes. That none is longer is `change-info-most` of Lengths. Assumes nothing.
 use Prim.Native.Nat.{ℕ, zero, suc, _+_}
 use mathlib.Core.Path.{_≡_, refl}
 use mathlib.Core.Bool.{true}

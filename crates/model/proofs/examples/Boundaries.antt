@@ -125,7 +125,7 @@ installText = packageText "install,30,1.0.0.0,0,0,," ""
 
 abbrev ofProcess : List Answered
 ofProcess =
-    -- 14: each part of the version decides, from the left; cluster 101 is at 1.0.0.0
+    -- 14: the first part that differs decides; the same version, and the next above it
     from idleFrom
     (cluster 20 (version 2 3 4 5) [] ∷ [])
     transferred

@@ -15,7 +15,7 @@ use Rattle.model.proofs.examples.Open.{computing}
 use Rattle.model.proofs.examples.Transcript.{line, listText, transfers, session, packageOf}
 use Rattle.model.proofs.examples.Samples.{cluster20, clusters}
 
--- the state that is handed to Load: it is given back when refused, whatever it holds
+-- the state that is handed to Load: it is given back when refused, whatever it holds. It is not sound, which Load does not ask
 abbrev given : State
 given = state verifying (transfers (packageOf 1 7 0 0 transferring ∷ []) 2) (session [] []) none
 

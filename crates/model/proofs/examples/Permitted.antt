@@ -26,29 +26,13 @@ infix 70 _allowedIn_
 abbrev _allowedIn_ : Call → List Phase → Permission
 call allowedIn states = record { call = call; states = states }
 
-module _ (rollbackOrigin : RollbackOrigin) (cleanUpOrigin : CleanUpOrigin) (n counter : ℕ) (block : List ℕ) (good : Bool) where
+module _ (rollbackOrigin : RollbackOrigin) (cleanUpOrigin : CleanUpOrigin) (n counter : ℕ) (block : List ℕ) where
   abbrev everyState : List Phase
   everyState =
       idle ∷ ready ∷ processing ∷ activating ∷ verifying ∷ activated ∷ rollingBack rollbackOrigin ∷ rolledBack ∷ cleaningUp cleanUpOrigin ∷ []
 
-  -- the calls but Report
-  abbrev eleven : List Call
-  eleven =
-      transferStart n
-      ∷ transferData n counter block
-      ∷ transferExit n
-      ∷ deleteTransfer n
-      ∷ process n
-      ∷ work n
-      ∷ cancel n
-      ∷ revert
-      ∷ activate
-      ∷ rollback
-      ∷ finish
-      ∷ []
-
-  abbrev permitted : List Permission
-  permitted =
+  abbrev permitted : Bool → List Permission
+  permitted good =
       -- "transfer calls always"
       transferStart n allowedIn everyState
       ∷ transferData n counter block allowedIn everyState
@@ -71,9 +55,16 @@ module _ (rollbackOrigin : RollbackOrigin) (cleanUpOrigin : CleanUpOrigin) (n co
       ∷ report good allowedIn (activating ∷ verifying ∷ rollingBack rollbackOrigin ∷ cleaningUp cleanUpOrigin ∷ [])
       ∷ []
 
-  -- the calls that may write the store in a manager's state
-  abbrev writers : Phase → List Call
-  writers phase = picked (mayWriteStore phase) (eleven ++ report true ∷ report false ∷ [])
+  -- the twelve calls, with a good or a bad Report
+  abbrev twelve : Bool → List Call
+  twelve good = map (λ p. p .call) (permitted good)
+
+  -- those of them that may write the store, by the manager's state
+  abbrev writers : Bool → List (List Call)
+  writers good = map (λ phase. picked (mayWriteStore phase) (twelve good)) everyState
+
+  abbrev blocksAndDeletes : List Call
+  blocksAndDeletes = transferData n counter block ∷ deleteTransfer n ∷ []
 
   pub record Permitted : Type 0 where
     -- "Package states: Transferring 0, Transferred 1, Processing 2, Processed 3."
@@ -81,13 +72,22 @@ module _ (rollbackOrigin : RollbackOrigin) (cleanUpOrigin : CleanUpOrigin) (n co
     -- "States: Idle 0, Ready 1, Processing 2, Activating 3, Verifying 4, Activated 5, RollingBack 6, RolledBack 7, CleaningUp 8."
     pub states : map phaseNumber everyState ≡ 0 ∷ 1 ∷ 2 ∷ 3 ∷ 4 ∷ 5 ∷ 6 ∷ 7 ∷ 8 ∷ []
     -- the order of "The twelve changing calls"
-    pub numbers : map callNumber (eleven ++ report good ∷ []) ≡ 0 ∷ 1 ∷ 2 ∷ 3 ∷ 4 ∷ 5 ∷ 6 ∷ 7 ∷ 8 ∷ 9 ∷ 10 ∷ 11 ∷ []
+    pub numbers : (good : Bool) → map callNumber (twelve good) ≡ 0 ∷ 1 ∷ 2 ∷ 3 ∷ 4 ∷ 5 ∷ 6 ∷ 7 ∷ 8 ∷ 9 ∷ 10 ∷ 11 ∷ []
     -- the states that allow each call
-    pub permissions : map (λ p. p .call allowedIn picked (λ phase. allowed phase (p .call)) everyState) permitted ≡ permitted
-    -- "Only Load, an accepted block and deleting write the store": in CleaningUp a good Report deletes as well
-    pub writing : map writers everyState
-        ≡ replicate 8 (transferData n counter block ∷ deleteTransfer n ∷ []) ++ (transferData n counter block ∷ deleteTransfer n ∷ report true ∷ []) ∷ []
+    pub permissions : (good : Bool)
+        → map (λ p. p .call allowedIn picked (λ phase. allowed phase (p .call)) everyState) (permitted good) ≡ permitted good
+    -- "Only Load, an accepted block and deleting write the store": of the Reports the good one that ends CleaningUp deletes
+    pub writing : writers true ≡ replicate 8 blocksAndDeletes ++ (blocksAndDeletes ++ report true ∷ []) ∷ []
+    pub writingNoMore : writers false ≡ replicate 9 blocksAndDeletes
 
   pub asPermitted : Permitted
   unfolding computing
-  asPermitted = record { packageStates = refl; states = refl; numbers = refl; permissions = refl; writing = refl }
+  asPermitted =
+      record {
+        packageStates = refl;
+        states = refl;
+        numbers = λ good. refl;
+        permissions = λ good. refl;
+        writing = refl;
+        writingNoMore = refl;
+      }

@@ -1,6 +1,6 @@
 -- "When a call is refused": for each call each refusal of its own with its number, and for each two that can apply at once and have
 -- none between them a case in which both do, where the one that document 01 has first is given. A refused call changes nothing, so one
--- start serves many. Which of the 108 permissions give 3 is in Permitted and Answers. Assumes nothing.
+-- start serves many. Which states allow a call is in Permitted. Assumes nothing.
 use Prim.Native.Nat.{ℕ, _-_}
 use mathlib.Core.Path.{refl}
 use mathlib.Core.Bool.{true, false}

@@ -9,18 +9,19 @@ use Rattle.checksum.specs.Sum.{sumOf}
 use Rattle.text.specs.declared.version.VersionRead.the-variants.{Value, IllFormed}
 use Rattle.text.specs.Number.{cursor}
 use Rattle.text.specs.Version.{wholeVersion}
+use Rattle.text.specs.Version.{version}
+use Rattle.clusters.specs.Cluster.{cluster, need}
 use Rattle.clusters.specs.Version.{above}
 use Rattle.clusters.specs.Table.{meets}
 use Rattle.actions.specs.Action.{install}
 use Rattle.manifest.specs.Package.{consistent, readPackage}
 use Rattle.model.specs.State.{verifying}
 use Rattle.model.specs.Calls.{transferStart, process, finish, givenId}
-use Rattle.model.specs.Step.{Outcome}
 use Rattle.model.specs.Run.{Made}
 use Rattle.model.proofs.examples.Open.{computing}
-use Rattle.model.proofs.examples.Transcript.{packageText, version, cluster, need, loadedWith, _gives_, _isRefusedBy_, callsToTransfer, callsToProcess, callsToVerifying, after, Holds}
+use Rattle.model.proofs.examples.Transcript.{packageText, Start, loadedWith, _gives_, _isRefusedBy_, callsToTransfer, callsToProcess, callsToVerifying, from_calls_, _ends_, Hold, HoldLooking}
 
-abbrev loaded : Outcome
+abbrev loaded : Start
 loaded = loadedWith 1 100
 
 -- the package of M10
@@ -30,7 +31,7 @@ installText = packageText "install,30,1.0.0.0,5,51440,20,1.0.4.0" "abcde"
 abbrev sameVersionText : List ℕ
 sameVersionText = packageText "update,20,1.0.4.0,0,0,," ""
 
--- a session with that package processed: Ready; and Verifying
+-- a session with the package of M10 processed: Ready; and Verifying
 abbrev pub toReady : List Made
 toReady = callsToTransfer 1 installText ++ callsToProcess 1 5
 
@@ -49,12 +50,14 @@ pub record BenchExamples : Type 0 where
   -- "M5 65536.0.0.0 isn't, 65535.0.0.0 is."
   pub m5 : (wholeVersion (bytes "65536.0.0.0") ≡ IllFormed) × (wholeVersion (bytes "65535.0.0.0") ≡ Value (version 65535 0 0 0) (cursor 11))
   -- "M6 a store of 100 with 91 declared takes 9, refuses 10 by 17."
-  pub m6 : Holds loaded (transferStart 91 gives givenId 1 ∷ transferStart 9 gives givenId 2 ∷ [])
-      × Holds loaded (transferStart 91 gives givenId 1 ∷ transferStart 10 isRefusedBy 17 ∷ [])
+  pub m6 : Hold
+      (from loaded calls (transferStart 91 gives givenId 1 ∷ transferStart 9 gives givenId 2 ∷ [])
+      ∷ from loaded calls (transferStart 91 gives givenId 1 ∷ transferStart 10 isRefusedBy 17 ∷ [])
+      ∷ [])
   -- "M7 an update to the same version: 14."
-  pub m7 : Holds loaded (callsToTransfer 1 sameVersionText ++ process 1 isRefusedBy 14 ∷ [])
+  pub m7 : Hold (from loaded calls (callsToTransfer 1 sameVersionText ++ process 1 isRefusedBy 14 ∷ []) ∷ [])
   -- "M8 Finish in Verifying: 3."
-  pub m8 : (after loaded toVerifying .state .phase ≡ verifying) × Holds loaded (toVerifying ++ finish isRefusedBy 3 ∷ [])
+  pub m8 : HoldLooking (λ r. r .state .phase) (from loaded calls (toVerifying ++ finish isRefusedBy 3 ∷ []) ends verifying ∷ [])
   -- "M9 least 1.0.4.0 is met by 1.0.4.0, not by 1.0.3.9."
   pub m9 : (meets (cluster 20 (version 1 0 4 0) [] ∷ []) (need 20 (version 1 0 4 0)) ≡ true)
       × (meets (cluster 20 (version 1 0 3 9) [] ∷ []) (need 20 (version 1 0 4 0)) ≡ false)
@@ -78,9 +81,9 @@ benchExamples =
       m3 = refl;
       m4 = refl;
       m5 = (refl, refl);
-      m6 = (refl, refl);
+      m6 = refl;
       m7 = refl;
-      m8 = (refl, refl);
+      m8 = refl;
       m9 = (refl, refl);
       m10 = (refl, refl);
     }

@@ -1,64 +1,93 @@
--- The table of permissions read by calls, as document 01 says who may call what: for each call the manager states that allow it, by
--- computation. So each of the 108 permissions is said twice. Assumes nothing.
+-- The numbers of document 01's states, package states and calls, each as one list, and who may call what, by calls, as document 01 says
+-- it: for each call the manager states that allow it. So each of the 108 permissions is said twice. What the arguments of a call are,
+-- and where RollingBack and CleaningUp came from, plays no part. Assumes nothing.
 use Prim.Native.Nat.{ℕ}
 use mathlib.Core.Path.{_≡_, refl}
-use mathlib.Core.Bool.{Bool, cond}
-use mathlib.Core.List.{List, [], _∷_}
-use Rattle.model.specs.State.{RollbackOrigin, CleanUpOrigin, Phase, idle, ready, processing, activating, verifying, activated, rollingBack, rolledBack, cleaningUp}
-use Rattle.model.specs.Calls.{Call, transferStart, transferData, transferExit, deleteTransfer, process, work, cancel, revert, activate, rollback, finish, report}
+use mathlib.Core.Bool.{Bool, true, false, cond}
+use mathlib.Core.List.{List, [], _∷_, _++_, map}
+use lib.ListN.{replicate}
+use Rattle.model.specs.State.{transferring, transferred, beingProcessed, processed, packageStateNumber, RollbackOrigin, CleanUpOrigin, Phase, idle, ready, processing, activating, verifying, activated, rollingBack, rolledBack, cleaningUp, phaseNumber}
+use Rattle.model.specs.Calls.{Call, callNumber, transferStart, transferData, transferExit, deleteTransfer, process, work, cancel, revert, activate, rollback, finish, report}
 use Rattle.model.specs.Permissions.{allowed}
+use Rattle.model.specs.Demand3.{mayWriteStore}
 use Rattle.model.proofs.examples.Open.{computing}
 
-module _ (rollbackOrigin : RollbackOrigin) (cleanUpOrigin : CleanUpOrigin) where
-  -- the nine states, the two that came from somewhere with any origin
-  abbrev every : List Phase
-  every =
+-- those of a list that a test picks
+abbrev picked : {A : Type 0} → (A → Bool) → List A → List A
+picked test [] = []
+picked test (x ∷ xs) = cond (test x) (x ∷ picked test xs) (picked test xs)
+
+-- a call and the states that allow it
+pub record Permission : Type 0 where
+  pub call : Call
+  pub states : List Phase
+
+infix 70 _allowedIn_
+abbrev _allowedIn_ : Call → List Phase → Permission
+call allowedIn states = record { call = call; states = states }
+
+module _ (rollbackOrigin : RollbackOrigin) (cleanUpOrigin : CleanUpOrigin) (n counter : ℕ) (block : List ℕ) where
+  abbrev everyState : List Phase
+  everyState =
       idle ∷ ready ∷ processing ∷ activating ∷ verifying ∷ activated ∷ rollingBack rollbackOrigin ∷ rolledBack ∷ cleaningUp cleanUpOrigin ∷ []
 
-  abbrev allowing : Call → List Phase → List Phase
-  allowing call [] = []
-  allowing call (phase ∷ phases) = cond (allowed phase call) (phase ∷ allowing call phases) (allowing call phases)
+  abbrev permitted : Bool → List Permission
+  permitted good =
+      -- "transfer calls always"
+      transferStart n allowedIn everyState
+      ∷ transferData n counter block allowedIn everyState
+      ∷ transferExit n allowedIn everyState
+      ∷ deleteTransfer n allowedIn everyState
+      -- "Process(id): Idle or Ready to Processing."
+      ∷ process n allowedIn (idle ∷ ready ∷ [])
+      -- "Work and Cancel are allowed in Processing"
+      ∷ work n allowedIn (processing ∷ [])
+      ∷ cancel n allowedIn (processing ∷ [])
+      -- "Revert: Ready to CleaningUp."
+      ∷ revert allowedIn (ready ∷ [])
+      -- "Activate: Ready to Activating."
+      ∷ activate allowedIn (ready ∷ [])
+      -- "Rollback: Verifying or Activated to RollingBack."
+      ∷ rollback allowedIn (verifying ∷ activated ∷ [])
+      -- "Finish: Activated or RolledBack to CleaningUp."
+      ∷ finish allowedIn (activated ∷ rolledBack ∷ [])
+      -- "Report in Activating, Verifying, RollingBack and CleaningUp"
+      ∷ report good allowedIn (activating ∷ verifying ∷ rollingBack rollbackOrigin ∷ cleaningUp cleanUpOrigin ∷ [])
+      ∷ []
 
-  -- the states that allow a call
-  abbrev states : Call → List Phase
-  states call = allowing call every
+  -- the twelve calls, with a good or a bad Report
+  abbrev twelve : Bool → List Call
+  twelve good = map (λ p. p .call) (permitted good)
+
+  -- those of them that may write the store, by the manager's state
+  abbrev writers : Bool → List (List Call)
+  writers good = map (λ phase. picked (mayWriteStore phase) (twelve good)) everyState
+
+  abbrev blocksAndDeletes : List Call
+  blocksAndDeletes = transferData n counter block ∷ deleteTransfer n ∷ []
 
   pub record Permitted : Type 0 where
-    -- "transfer calls always"
-    pub ofTransferStart : (size : ℕ) → states (transferStart size) ≡ every
-    pub ofTransferData : (id counter : ℕ) → (block : List ℕ) → states (transferData id counter block) ≡ every
-    pub ofTransferExit : (id : ℕ) → states (transferExit id) ≡ every
-    pub ofDeleteTransfer : (id : ℕ) → states (deleteTransfer id) ≡ every
-    -- "Process(id): Idle or Ready to Processing."
-    pub ofProcess : (id : ℕ) → states (process id) ≡ idle ∷ ready ∷ []
-    -- "Work and Cancel are allowed in Processing"
-    pub ofWork : (n : ℕ) → states (work n) ≡ processing ∷ []
-    pub ofCancel : (id : ℕ) → states (cancel id) ≡ processing ∷ []
-    -- "Revert: Ready to CleaningUp."
-    pub ofRevert : states revert ≡ ready ∷ []
-    -- "Activate: Ready to Activating."
-    pub ofActivate : states activate ≡ ready ∷ []
-    -- "Rollback: Verifying or Activated to RollingBack."
-    pub ofRollback : states rollback ≡ verifying ∷ activated ∷ []
-    -- "Finish: Activated or RolledBack to CleaningUp."
-    pub ofFinish : states finish ≡ activated ∷ rolledBack ∷ []
-    -- "Report in Activating, Verifying, RollingBack and CleaningUp"
-    pub ofReport : (good : Bool) → states (report good) ≡ activating ∷ verifying ∷ rollingBack rollbackOrigin ∷ cleaningUp cleanUpOrigin ∷ []
+    -- "Package states: Transferring 0, Transferred 1, Processing 2, Processed 3."
+    pub packageStates : map packageStateNumber (transferring ∷ transferred ∷ beingProcessed ∷ processed ∷ []) ≡ 0 ∷ 1 ∷ 2 ∷ 3 ∷ []
+    -- "States: Idle 0, Ready 1, Processing 2, Activating 3, Verifying 4, Activated 5, RollingBack 6, RolledBack 7, CleaningUp 8."
+    pub states : map phaseNumber everyState ≡ 0 ∷ 1 ∷ 2 ∷ 3 ∷ 4 ∷ 5 ∷ 6 ∷ 7 ∷ 8 ∷ []
+    -- the order of "The twelve changing calls"
+    pub numbers : (good : Bool) → map callNumber (twelve good) ≡ 0 ∷ 1 ∷ 2 ∷ 3 ∷ 4 ∷ 5 ∷ 6 ∷ 7 ∷ 8 ∷ 9 ∷ 10 ∷ 11 ∷ []
+    -- the states that allow each call
+    pub permissions : (good : Bool)
+        → map (λ p. p .call allowedIn picked (λ phase. allowed phase (p .call)) everyState) (permitted good) ≡ permitted good
+    -- "Only Load, an accepted block and deleting write the store": of the Reports the good one that ends CleaningUp deletes
+    pub writing : writers true ≡ replicate 8 blocksAndDeletes ++ (blocksAndDeletes ++ report true ∷ []) ∷ []
+    pub writingNoMore : writers false ≡ replicate 9 blocksAndDeletes
 
-  pub permitted : Permitted
+  pub asPermitted : Permitted
   unfolding computing
-  permitted =
+  asPermitted =
       record {
-        ofTransferStart = λ size. refl;
-        ofTransferData = λ id counter block. refl;
-        ofTransferExit = λ id. refl;
-        ofDeleteTransfer = λ id. refl;
-        ofProcess = λ id. refl;
-        ofWork = λ n. refl;
-        ofCancel = λ id. refl;
-        ofRevert = refl;
-        ofActivate = refl;
-        ofRollback = refl;
-        ofFinish = refl;
-        ofReport = λ good. refl;
+        packageStates = refl;
+        states = refl;
+        numbers = λ good. refl;
+        permissions = λ good. refl;
+        writing = refl;
+        writingNoMore = refl;
       }

@@ -1,261 +1,281 @@
--- The reading calls by computation, each on states that calls reach from a Load of document 01's list: what they answer and what they
--- leave in the lent buffer. A report that is made up, or the same each time, does not meet them, nor does one that rounds up, wants
--- more room than it writes, or lists in another order. Assumes nothing.
-use Prim.Native.Nat.{ℕ}
+-- "Reading calls": what Packages, ClusterInfo, ChangeInfo, Payload with the call beside it, and Progress answer, and what the first
+-- three leave in the lent buffer, with each of their refusals. A report that is made up, or the same each time, does not hold, nor one
+-- that rounds up, wants more room than it writes, or lists in another order. Assumes nothing.
+use Prim.Native.Nat.{ℕ, _+_}
 use mathlib.Core.Path.{_≡_, refl}
-use mathlib.Core.Bool.{true}
-use mathlib.Core.List.{List, [], _∷_, _++_}
-use lib.ListN.{length, drop, replicate}
+use mathlib.Core.Bool.{Bool, true, false}
+use mathlib.Core.List.{List, [], _∷_, _++_, map}
+use mathlib.Core.Option.{some}
+use lib.ListN.{replicate}
 use Rattle.base.specs.Quoted.{bytes}
-use Rattle.model.specs.State.{idle, State, state, Store}
-use Rattle.model.specs.Calls.{transferStart, transferData, process, work, rollback, report, givenId, done, working}
-use Rattle.model.specs.Areas.{overwritten}
-use Rattle.model.specs.Sound.{sound}
-use Rattle.model.specs.Step.{Outcome}
-use Rattle.model.specs.Run.{Made, Run}
-use Rattle.model.specs.Reading.{ReadingReply, refusedBy, shortBuffer, given, Report, packagesReport, clusterInfoReport, changeInfoReport, PackageRecord, packageRecords, clusterInfo, changeInfo, payload, payloadCheck, progress}
+use Rattle.text.specs.Version.{version}
+use Rattle.clusters.specs.Cluster.{cluster}
+use Rattle.actions.specs.Action.{install, update, remove}
+use Rattle.model.specs.State.{transferring, transferred, beingProcessed, processed, verifyingRollsBack, activatedRollsBack, readyCleansUp, activatedCleansUp, rolledBackCleansUp, ready, processing, activating, verifying, activated, rollingBack, rolledBack, cleaningUp, state}
+use Rattle.model.specs.Reading.{ReadingReply, refusedBy, shortBuffer, given, replyNumber, Report, packagesReport, clusterInfoReport, changeInfoReport, PackageRecord, payloadReply, payload, payloadCheck, progress}
 use Rattle.model.proofs.examples.Open.{computing}
-use Rattle.model.proofs.examples.Transcript.{line, listText, packageText, loadedFrom, _gives_, callsToTransfer, callsToProcess, callsToVerifying, after, Holds}
-use Rattle.model.proofs.examples.BenchExamples.{installText}
-use Rattle.model.proofs.examples.Sessions.{updateText}
+use Rattle.model.proofs.examples.Transcript.{line, listText, packageText, packageOf, transfers, session, entry, kept, Start, start, loadedFrom}
+use Rattle.model.proofs.examples.Samples.{cluster20, cluster30, updated20, updateText, removeText, illFormedText, longText, shortText, bothText, idleWith, idleHolding, readyWith, eachStart, unsound, unsoundIdle, sessionIn}
 
--- ---- the calls
+-- ---- what is asked and what is given
 
--- the list that document 01 gives to `clist`, and a store as long as the packages below together
-abbrev loaded : Outcome
-loaded =
-    loadedFrom (line "version,cluster,least,needs" ++ (line "1.0.0.3,11,1.0.0.0,20" ++ line "1.0.4.0,20,,")) 1 244
+-- the first three with room for so many records or bytes
+pub data Question : Type 0 where
+  packages clusterInfo changeInfo : ℕ → Question
+  payloadOf : ℕ → Question
+  progressNow : Question
 
-abbrev removeText : List ℕ
-removeText = packageText "remove,11,,0,0,," ""
+-- records or bytes, with the reply; Payload's bytes with its reply and the number of the call beside it; a reply alone
+pub data Given : Type 0 where
+  records : ReadingReply → List PackageRecord → Given
+  text : ReadingReply → List ℕ → Given
+  part : ReadingReply → ℕ → List ℕ → Given
+  number : ReadingReply → Given
 
--- three packages of 91, 79 and 65 bytes Transferred, one of 9 Transferring, of which 4 came
-abbrev toTransferred : List Made
-toTransferred =
-    callsToTransfer 1 installText
-    ++ callsToTransfer 2 updateText
-    ++ callsToTransfer 3 removeText
-    ++ transferStart 9 gives givenId 4
-    ∷ transferData 4 1 (bytes "abcd") gives done
-    ∷ []
+abbrev row : ℕ → ℕ → ℕ → ℕ → PackageRecord
+row id size received packageState = record { id = id; size = size; received = received; state = packageState }
 
--- the second Processing, 1 of its 3 payload bytes done
-abbrev toFirstByte : List Made
-toFirstByte = toTransferred ++ process 2 gives done ∷ work 1 gives working ∷ []
+-- what each lent record and byte holds before
+abbrev lentRow : PackageRecord
+lentRow = row 7 7 7 7
 
--- the second Processed, the first Processing, 4 of its 5 payload bytes done
-abbrev toEachState : List Made
-toEachState = toTransferred ++ callsToProcess 2 3 ++ process 1 gives done ∷ work 4 gives working ∷ []
+abbrev lent : ℕ → List ℕ
+lent room = replicate room 255
 
--- the third Processing, whose payload has no byte
-abbrev toNoPayload : List Made
-toNoPayload = toTransferred ++ process 3 gives done ∷ []
+abbrev recordsOf : Report PackageRecord → Given
+recordsOf r = records (r .reply) (r .buffer)
 
--- all three Processed, the second first and the first last: Verifying
-abbrev toVerifying : List Made
-toVerifying = toTransferred ++ callsToProcess 2 3 ++ callsToProcess 3 0 ++ callsToProcess 1 5 ++ callsToVerifying
+abbrev textOf : Report ℕ → Given
+textOf r = text (r .reply) (r .buffer)
 
--- and rolled back
-abbrev toRolledBack : List Made
-toRolledBack = toVerifying ++ rollback gives done ∷ report true gives done ∷ []
+abbrev asked : Start → Question → Given
+asked at (packages room) = recordsOf (packagesReport (at .state) (at .store) (replicate room lentRow))
+asked at (clusterInfo room) = textOf (clusterInfoReport (at .state) (at .store) (lent room))
+asked at (changeInfo room) = textOf (changeInfoReport (at .state) (at .store) (lent room))
+asked at (payloadOf id) = part (payloadReply (at .state) (at .store) id) (payloadCheck (at .state) (at .store) id) (payload (at .state) (at .store) id)
+asked at progressNow = number (progress (at .state) (at .store))
 
--- ---- what a report gives
+-- a question with what is given
+pub record Reading : Type 0 where
+  pub question : Question
+  pub answer : Given
 
-abbrev reportGives : {A : Type 0} → ReadingReply → List A → Report A
-reportGives reply buffer = record { reply = reply; buffer = buffer }
+infix 70 _is_
+abbrev _is_ : Question → Given → Reading
+question is answer = record { question = question; answer = answer }
 
-abbrev packagesInto : Run → List PackageRecord → Report PackageRecord
-packagesInto r old = packagesReport (r .state) (r .store) old
+-- questions in a state with a store
+pub record ReadingCase : Type 0 where
+  pub at : Start
+  pub readings : List Reading
 
-abbrev clusterInfoInto : Run → List ℕ → Report ℕ
-clusterInfoInto r old = clusterInfoReport (r .state) (r .store) old
-
-abbrev changeInfoInto : Run → List ℕ → Report ℕ
-changeInfoInto r old = changeInfoReport (r .state) (r .store) old
-
--- Payload, and the call beside it
-pub record PayloadReport : Type 0 where
-  pub bytes : List ℕ
-  pub check : ℕ
-
-abbrev payloadGives : List ℕ → ℕ → PayloadReport
-payloadGives bytes check = record { bytes = bytes; check = check }
-
-abbrev payloadOf : State → Store → ℕ → PayloadReport
-payloadOf s store id = payloadGives (payload s store id) (payloadCheck s store id)
-
-abbrev payloadIn : Run → ℕ → PayloadReport
-payloadIn r id = payloadOf (r .state) (r .store) id
-
-abbrev progressIn : Run → ReadingReply
-progressIn r = progress (r .state) (r .store)
-
--- ---- the answers
-
-pub record Transcripts : Type 0 where
-  pub firstByte : Holds loaded toFirstByte
-  pub eachState : Holds loaded toEachState
-  pub noPayload : Holds loaded toNoPayload
-  pub rolledBack : Holds loaded toRolledBack
-
-pub transcripts : Transcripts
-unfolding computing
-transcripts = record { firstByte = refl; eachState = refl; noPayload = refl; rolledBack = refl }
+infix 70 from_reads_
+abbrev from_reads_ : Start → List Reading → ReadingCase
+from at reads readings = record { at = at; readings = readings }
 
 -- ---- Packages
 
-abbrev packageRow : ℕ → ℕ → ℕ → ℕ → PackageRecord
-packageRow id size received packageState = record { id = id; size = size; received = received; state = packageState }
+abbrev fiveRows : List PackageRecord
+fiveRows = row 1 4 2 0 ∷ row 2 2 2 1 ∷ row 3 3 3 2 ∷ row 4 1 1 3 ∷ row 5 2 2 0 ∷ []
 
--- what a lent record holds before
-abbrev lentRow : PackageRecord
-lentRow = packageRow 7 7 7 7
-
-abbrev fourRows : List PackageRecord
-fourRows = packageRow 1 91 91 2 ∷ packageRow 2 79 79 3 ∷ packageRow 3 65 65 1 ∷ packageRow 4 9 4 0 ∷ []
-
-pub record PackagesReports : Type 0 where
-  -- "in id order", with room for exactly these; and with two behind them
-  pub exact : packagesInto (after loaded toEachState) (replicate 4 lentRow) ≡ reportGives (given 4) fourRows
-  pub behind : packagesInto (after loaded toEachState) (replicate 6 lentRow) ≡ reportGives (given 4) (fourRows ++ lentRow ∷ lentRow ∷ [])
-  -- 19 "gives the length needed"
-  pub short : packagesInto (after loaded toEachState) (replicate 3 lentRow) ≡ reportGives (shortBuffer 4) (replicate 3 lentRow)
-  -- no package
-  pub empty : packagesInto (after loaded []) [] ≡ reportGives (given 0) []
-
-pub packagesReports : PackagesReports
-unfolding computing
-packagesReports = record { exact = refl; behind = refl; short = refl; empty = refl }
+abbrev ofPackages : List ReadingCase
+ofPackages =
+    -- "records (id, size, received, state) in id order": exact room, and records behind; one less
+    from eachStart
+    reads
+    (packages 5 is records (given 5) fiveRows
+    ∷ packages 7 is records (given 5) (fiveRows ++ lentRow ∷ lentRow ∷ [])
+    ∷ packages 4 is records (shortBuffer 5) (replicate 4 lentRow)
+    ∷ packages 0 is records (shortBuffer 5) []
+    ∷ [])
+    -- no package
+    ∷ from idleWith [] 1 0 reads (packages 0 is records (given 0) [] ∷ packages 1 is records (given 0) (lentRow ∷ []) ∷ [])
+    ∷ []
 
 -- ---- ClusterInfo
 
--- what document 01 says that `clist` prints
-abbrev loadedText : List ℕ
-loadedText = listText "11,1.0.0.3,20,1.0.0.0" ++ line "20,1.0.4.0,,"
+-- the tables of the session of two packages: the beginning one and the staged one
+abbrev beginningText : List ℕ
+beginningText = listText "20,1.0.4.0,,"
 
 abbrev stagedText : List ℕ
-stagedText = listText "20,1.0.5.0,," ++ line "30,1.0.0.0,20,1.0.4.0"
+stagedText = listText "20,1.0.5.0,," ++ line "30,1.0.0.0,20,1.0.5.0"
 
-pub record ClusterInfoReports : Type 0 where
-  pub exact : clusterInfoInto (after loaded []) (replicate 63 255) ≡ reportGives (given 63) loadedText
-  pub behind : clusterInfoInto (after loaded []) (replicate 65 255) ≡ reportGives (given 63) (loadedText ++ 255 ∷ 255 ∷ [])
-  pub short : clusterInfoInto (after loaded []) (replicate 62 255) ≡ reportGives (shortBuffer 63) (replicate 62 255)
-  -- the staged table, and the beginning one again
-  pub verifying : clusterInfoInto (after loaded toVerifying) (replicate 63 255) ≡ reportGives (given 63) stagedText
-  pub rolledBack : clusterInfoInto (after loaded toRolledBack) (replicate 63 255) ≡ reportGives (given 63) loadedText
+abbrev saysBeginning : List Reading
+saysBeginning = clusterInfo 63 is text (given 41) (beginningText ++ lent 22) ∷ []
 
-pub clusterInfoReports : ClusterInfoReports
-unfolding computing
-clusterInfoReports = record { exact = refl; behind = refl; short = refl; verifying = refl; rolledBack = refl }
+abbrev saysStaged : List Reading
+saysStaged = clusterInfo 63 is text (given 63) stagedText ∷ []
+
+-- what document 01 says that `clist` prints
+abbrev printedText : List ℕ
+printedText = listText "11,1.0.0.3,20,1.0.0.0" ++ line "20,1.0.4.0,,"
+
+abbrev ofClusterInfo : List ReadingCase
+ofClusterInfo =
+    -- exact room, and bytes behind; one less
+    from loadedFrom (line "version,cluster,least,needs" ++ (line "1.0.0.3,11,1.0.0.0,20" ++ line "1.0.4.0,20,,")) 1 9
+    reads
+    (clusterInfo 63 is text (given 63) printedText
+    ∷ clusterInfo 65 is text (given 63) (printedText ++ lent 2)
+    ∷ clusterInfo 62 is text (shortBuffer 63) (lent 62)
+    ∷ clusterInfo 0 is text (shortBuffer 63) []
+    ∷ [])
+    -- "ClusterInfo writes the running table as text", in each manager's state
+    ∷ from idleWith [] 1 0 reads saysBeginning
+    ∷ from eachStart reads saysBeginning
+    ∷ from sessionIn ready reads saysBeginning
+    ∷ from sessionIn activating reads saysBeginning
+    ∷ from sessionIn verifying reads saysStaged
+    ∷ from sessionIn activated reads saysStaged
+    ∷ from sessionIn (rollingBack verifyingRollsBack) reads saysStaged
+    ∷ from sessionIn (rollingBack activatedRollsBack) reads saysStaged
+    ∷ from sessionIn rolledBack reads saysBeginning
+    ∷ from sessionIn (cleaningUp readyCleansUp) reads saysBeginning
+    ∷ from sessionIn (cleaningUp activatedCleansUp) reads saysStaged
+    ∷ from sessionIn (cleaningUp rolledBackCleansUp) reads saysBeginning
+    ∷ []
 
 -- ---- ChangeInfo
 
 abbrev changesText : List ℕ
-changesText = line "cluster,change" ++ (line "20,Updated" ++ (line "11,Removed" ++ line "30,Added"))
+changesText = line "cluster,change" ++ line "40,Removed" ++ line "30,Added" ++ line "20,Updated"
 
-pub record ChangeInfoReports : Type 0 where
-  -- in the order in which they were processed, which is neither that of the ids nor that of the part numbers
-  pub exact : changeInfoInto (after loaded toVerifying) (replicate 46 255) ≡ reportGives (given 46) changesText
-  pub behind : changeInfoInto (after loaded toVerifying) (replicate 47 255) ≡ reportGives (given 46) (changesText ++ 255 ∷ [])
-  pub short : changeInfoInto (after loaded toVerifying) (replicate 45 255) ≡ reportGives (shortBuffer 46) (replicate 45 255)
-  -- "with a names line always", also where only a package that is not yet in the list is processed
-  pub empty : changeInfoInto (after loaded []) (replicate 15 255) ≡ reportGives (given 15) (line "cluster,change")
-  pub notYet : changeInfoInto (after loaded toFirstByte) (replicate 15 255) ≡ reportGives (given 15) (line "cluster,change")
-
-pub changeInfoReports : ChangeInfoReports
-unfolding computing
-changeInfoReports = record { exact = refl; behind = refl; short = refl; empty = refl; notYet = refl }
+abbrev ofChangeInfo : List ReadingCase
+ofChangeInfo =
+    -- "names `cluster`, `change` with Added, Updated or Removed": exact room, and bytes behind; one less
+    from readyWith (cluster20 ∷ cluster 40 (version 1 0 0 0) [] ∷ []) (remove 40 ∷ install cluster30 ∷ update updated20 ∷ []) []
+    reads
+    (changeInfo 46 is text (given 46) changesText
+    ∷ changeInfo 47 is text (given 46) (changesText ++ lent 1)
+    ∷ changeInfo 45 is text (shortBuffer 46) (lent 45)
+    ∷ [])
+    -- "the session's list in order", which is not that of the ids
+    ∷ from sessionIn verifying
+    reads
+    (changeInfo 35 is text (given 35) (line "cluster,change" ++ line "30,Added" ++ line "20,Updated")
+    ∷ [])
+    -- not the package that is processing
+    ∷ from eachStart reads (changeInfo 26 is text (given 26) (line "cluster,change" ++ line "20,Removed") ∷ [])
+    -- "with a names line always"
+    ∷ from idleWith [] 1 0
+    reads
+    (changeInfo 15 is text (given 15) (line "cluster,change") ∷ changeInfo 14 is text (shortBuffer 15) (lent 14) ∷ [])
+    ∷ []
 
 -- ---- Payload
 
--- the store with other bytes from a position on, written by somebody else; the second area begins at 91
-abbrev damaged : ℕ → List ℕ → Store
-damaged at others = overwritten at others (after loaded toTransferred .store)
+-- a package Processed and another Processing, with payloads `abc` and `xy`
+abbrev otherText : List ℕ
+otherText = packageText "install,30,1.0.0.0,2,0,," "xy"
 
--- of a package, with such a store
-abbrev payloadDamaged : ℕ → ℕ → List ℕ → PayloadReport
-payloadDamaged id at others = payloadOf (after loaded toTransferred .state) (damaged at others) id
+abbrev processingOther : Start
+processingOther =
+    start
+    (state
+    processing
+    (transfers (packageOf 1 79 79 1 processed ∷ packageOf 2 75 75 1 beingProcessed ∷ []) 3)
+    (session (cluster20 ∷ []) (entry 1 (update updated20) ∷ []))
+    (some (kept (install cluster30) 73 2 0 0 0 0 false)))
+    (updateText ++ otherText)
 
-pub record PayloadReports : Type 0 where
-  pub first : payloadIn (after loaded toTransferred) 1 ≡ payloadGives (bytes "abcde") 0
-  pub second : payloadIn (after loaded toTransferred) 2 ≡ payloadGives (bytes "abc") 0
-  -- no byte, and not refused
-  pub third : payloadIn (after loaded toTransferred) 3 ≡ payloadGives [] 0
-  -- 5, Transferring; 4, no package
-  pub fourth : payloadIn (after loaded toTransferred) 4 ≡ payloadGives [] 5
-  pub fifth : payloadIn (after loaded toTransferred) 5 ≡ payloadGives [] 4
-  -- also of a package that is Processing or Processed
-  pub processing : payloadIn (after loaded toEachState) 1 ≡ payloadGives (bytes "abcde") 0
-  pub processed : payloadIn (after loaded toEachState) 2 ≡ payloadGives (bytes "abc") 0
-  -- 9, another name than `action`; 10, another count than 3; another payload byte is given as it is
-  pub illFormed : payloadDamaged 2 91 (bytes "A") ≡ payloadGives [] 9
-  pub inconsistent : payloadDamaged 2 156 (bytes "2") ≡ payloadGives [] 10
-  pub changed : payloadDamaged 2 167 (bytes "x") ≡ payloadGives (bytes "xbc") 0
-  -- the other packages' are not damaged
-  pub other : payloadDamaged 1 91 (bytes "A") ≡ payloadGives (bytes "abcde") 0
+-- refused by a number, and empty
+abbrev refusedPart : ℕ → Given
+refusedPart n = part (refusedBy n) n []
 
-pub payloadReports : PayloadReports
-unfolding computing
-payloadReports =
-    record {
-      first = refl;
-      second = refl;
-      third = refl;
-      fourth = refl;
-      fifth = refl;
-      processing = refl;
-      processed = refl;
-      illFormed = refl;
-      inconsistent = refl;
-      changed = refl;
-      other = refl;
-    }
+abbrev ofPayload : List ReadingCase
+ofPayload =
+    -- "the payload's part of the store itself"; no byte, and not refused; 9, 10 for each reason, 9 and 10; 4
+    from idleHolding transferred (updateText ∷ removeText ∷ illFormedText ∷ longText ∷ shortText ∷ bothText ∷ [])
+    reads
+    (payloadOf 1 is part (given 3) 0 (bytes "abc")
+    ∷ payloadOf 2 is part (given 0) 0 []
+    ∷ payloadOf 3 is refusedPart 9
+    ∷ payloadOf 4 is refusedPart 10
+    ∷ payloadOf 5 is refusedPart 10
+    ∷ payloadOf 6 is refusedPart 9
+    ∷ payloadOf 7 is refusedPart 4
+    ∷ payloadOf 0 is refusedPart 4
+    ∷ [])
+    -- "Payload on Transferring": 5; 5 and 9; 5 and 10
+    ∷ from idleHolding transferring (updateText ∷ illFormedText ∷ longText ∷ [])
+    reads
+    (payloadOf 1 is refusedPart 5
+    ∷ payloadOf 2 is refusedPart 5
+    ∷ payloadOf 3 is refusedPart 5
+    ∷ [])
+    -- past Transferred
+    ∷ from processingOther reads (payloadOf 1 is part (given 3) 0 (bytes "abc") ∷ payloadOf 2 is part (given 2) 0 (bytes "xy") ∷ [])
+    ∷ []
 
 -- ---- Progress
 
-pub record ProgressReports : Type 0 where
-  pub outside : progressIn (after loaded toTransferred) ≡ given 0
-  -- 1 of 3 bytes; 4 of 5
-  pub firstByte : progressIn (after loaded toFirstByte) ≡ given 33
-  pub fourth : progressIn (after loaded toEachState) ≡ given 80
-  pub noPayload : progressIn (after loaded toNoPayload) ≡ given 100
-  pub afterwards : progressIn (after loaded toVerifying) ≡ given 0
+-- Processing, with as many bytes done of as many
+abbrev doneOf : ℕ → ℕ → Bool → Start
+doneOf bytesDone count noted =
+    start
+    (state
+    processing
+    (transfers (packageOf 1 (count + 1) (count + 1) 1 beingProcessed ∷ []) 2)
+    (session (cluster20 ∷ []) [])
+    (some (kept (install cluster30) 1 count 0 0 0 bytesDone noted)))
+    (replicate (count + 1) 0)
 
-pub progressReports : ProgressReports
-unfolding computing
-progressReports = record { outside = refl; firstByte = refl; fourth = refl; noPayload = refl; afterwards = refl }
+abbrev progressIs : ℕ → List Reading
+progressIs n = progressNow is number (given n) ∷ []
+
+abbrev ofProgress : List ReadingCase
+ofProgress =
+    -- "floor(100 × done / payload)"
+    from doneOf 0 3 false reads progressIs 0
+    ∷ from doneOf 1 3 false reads progressIs 33
+    ∷ from doneOf 2 3 false reads progressIs 66
+    ∷ from doneOf 3 3 false reads progressIs 100
+    ∷ from doneOf 1 100 false reads progressIs 1
+    ∷ from doneOf 99 100 false reads progressIs 99
+    ∷ from doneOf 1 101 false reads progressIs 0
+    ∷ from doneOf 100 101 false reads progressIs 99
+    -- "100 for payload 0"
+    ∷ from doneOf 0 0 false reads progressIs 100
+    -- a noted cancel plays no part
+    ∷ from doneOf 2 3 true reads progressIs 66
+    -- "0 outside Processing"
+    ∷ from idleWith [] 1 0 reads progressIs 0
+    ∷ from sessionIn ready reads progressIs 0
+    ∷ from sessionIn verifying reads progressIs 0
+    ∷ []
 
 -- ---- a state that is not sound
 
--- a package is Processing, and the manager's state is Idle
-abbrev idleAndProcessing : State
-idleAndProcessing =
-    let s = after loaded toFirstByte .state in
-    state idle (s .transfers) (s .session) (s .work)
+-- 1, before 19 and before 4; nothing is written
+abbrev refusedBy1 : List Reading
+refusedBy1 =
+    packages 1 is records (refusedBy 1) (lentRow ∷ [])
+    ∷ packages 0 is records (refusedBy 1) []
+    ∷ clusterInfo 1 is text (refusedBy 1) (lent 1)
+    ∷ clusterInfo 99 is text (refusedBy 1) (lent 99)
+    ∷ changeInfo 1 is text (refusedBy 1) (lent 1)
+    ∷ changeInfo 99 is text (refusedBy 1) (lent 99)
+    ∷ payloadOf 1 is refusedPart 1
+    ∷ payloadOf 9 is refusedPart 1
+    ∷ progressNow is number (refusedBy 1)
+    ∷ []
 
--- the state that was reached, with a store that is a byte too short for the areas
-abbrev firstByteState : State
-firstByteState = after loaded toFirstByte .state
+abbrev ofUnsound : List ReadingCase
+ofUnsound = from unsound reads refusedBy1 ∷ from unsoundIdle reads refusedBy1 ∷ []
 
-abbrev shortStore : Store
-shortStore = drop 1 (after loaded toFirstByte .store)
+-- ---- the table
 
--- each reading call is refused by 1, before 19, and leaves the lent buffer
-pub record RefusedBy1 (s : State) (store : Store) : Type 0 where
-  pub packages : packagesReport s store (lentRow ∷ []) ≡ reportGives (refusedBy 1) (lentRow ∷ [])
-  pub clusters : clusterInfoReport s store (255 ∷ []) ≡ reportGives (refusedBy 1) (255 ∷ [])
-  pub changes : changeInfoReport s store (replicate 15 255) ≡ reportGives (refusedBy 1) (replicate 15 255)
-  pub payload : payloadOf s store 1 ≡ payloadGives [] 1
-  pub progress : progress s store ≡ refusedBy 1
+abbrev table : List ReadingCase
+table = ofPackages ++ ofClusterInfo ++ ofChangeInfo ++ ofPayload ++ ofProgress ++ ofUnsound
 
-pub record BadStateReports : Type 0 where
-  pub badState : RefusedBy1 idleAndProcessing (after loaded toFirstByte .store)
-  pub badStore : RefusedBy1 firstByteState shortStore
+abbrev answered : ReadingCase → ReadingCase
+answered c = from c .at reads map (λ r. r .question is asked (c .at) (r .question)) (c .readings)
 
-pub badStateReports : BadStateReports
+pub reports : map answered table ≡ table
 unfolding computing
-badStateReports =
-    record {
-      badState = record { packages = refl; clusters = refl; changes = refl; payload = refl; progress = refl };
-      badStore = record { packages = refl; clusters = refl; changes = refl; payload = refl; progress = refl };
-    }
+reports = refl
+
+-- "a refusal is the number alone (19 adds a length)"
+pub numbers : map replyNumber (refusedBy 1 ∷ refusedBy 4 ∷ shortBuffer 5 ∷ given 6 ∷ []) ≡ 1 ∷ 4 ∷ 19 ∷ 0 ∷ []
+numbers = refl

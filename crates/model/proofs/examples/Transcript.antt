@@ -1,23 +1,22 @@
--- What the computed examples are made of: texts, clusters, a Load, and transcripts, lists of calls with their answers, which hold
--- where the calls, made from the Load on, are answered so. Assumes nothing.
+-- What the computed examples are made of: texts, clusters, the parts of a state, a Load, transcripts (lists of calls with their
+-- answers) and the one type of cases. A table is a list of cases, and holds where every call of every case is answered as the case
+-- says and each case ends with what it says. Assumes nothing.
 use Prim.Native.Nat.{ℕ}
 use Prim.Native.String.{String}
 use mathlib.Core.Path.{_≡_}
-use mathlib.Core.Bool.{true}
-use mathlib.Core.List.{List, [], _∷_, _++_}
+use mathlib.Core.Bool.{Bool, true}
+use mathlib.Core.List.{List, [], _∷_, _++_, map}
 use lib.ListN.{length, replicate, take, drop}
 use Rattle.base.specs.Quoted.{bytes, LF}
 use Rattle.text.specs.declared.version.Version.{Version}
 use Rattle.clusters.specs.declared.cluster.Need.{Need}
 use Rattle.clusters.specs.Cluster.{Cluster}
 use Rattle.clusters.specs.Table.{Table}
-use Rattle.model.specs.State.{Phase}
-use Rattle.model.specs.Calls.{Call, transferStart, transferData, transferExit, process, work, activate, finish, report, Answer, givenId, done, processed, refused, accepted}
-use Rattle.model.specs.Tables.{running}
-use Rattle.model.specs.Step.{Outcome}
+use Rattle.actions.specs.Action.{Action}
+use Rattle.model.specs.State.{PackageState, Package, Transfers, Entry, Session, Work, State, Store}
+use Rattle.model.specs.Calls.{Call, transferStart, transferData, transferExit, process, work, activate, report, Answer, givenId, done, processed, refused, accepted}
 use Rattle.model.specs.Load.{load, loadedState}
 use Rattle.model.specs.Run.{Made, Run, run, callsOf}
-use Rattle.model.specs.Journal.{Journal, opened, journal}
 
 -- ---- texts
 
@@ -35,23 +34,49 @@ packageText values payload =
 
 -- ---- clusters
 
-abbrev pub version : ℕ → ℕ → ℕ → ℕ → Version
-version first second third fourth = record { first = first; second = second; third = third; fourth = fourth }
+-- ---- the parts of a state
 
-abbrev pub cluster : ℕ → Version → List Need → Cluster
-cluster part version needs = record { part = part; version = version; needs = needs }
+-- id, size, bytes received, accepted blocks
+abbrev pub packageOf : ℕ → ℕ → ℕ → ℕ → PackageState → Package
+packageOf id size received blocks s = record { id = id; size = size; received = received; blocks = blocks; state = s }
 
-abbrev pub need : ℕ → Version → Need
-need part least = record { part = part; least = least }
+abbrev pub transfers : List Package → ℕ → Transfers
+transfers packages next = record { packages = packages; next = next }
 
--- ---- Load
+abbrev pub session : Table → List Entry → Session
+session beginning listed = record { beginning = beginning; listed = listed }
+
+abbrev pub entry : ℕ → Action → Entry
+entry id action = record { id = id; action = action }
+
+-- the kept values: action, payload's start, count and sum, c0 and c1, bytes done, whether a cancel is noted
+abbrev pub kept : Action → ℕ → ℕ → ℕ → ℕ → ℕ → ℕ → Bool → Work
+kept action payloadStart count sum c0 c1 bytesDone cancelNoted =
+    record {
+      action = action;
+      start = payloadStart;
+      count = count;
+      sum = sum;
+      runningSums = record { c0 = c0; c1 = c1 };
+      done = bytesDone;
+      cancelNoted = cancelNoted;
+    }
+
+-- ---- where calls begin
+
+pub record Start : Type 0 where
+  pub state : State
+  pub store : Store
+
+abbrev pub start : State → Store → Start
+start s store = record { state = s; store = store }
 
 -- Load of a list with a first id, in a store of a length whose bytes were not 0
-abbrev pub loadedFrom : List ℕ → ℕ → ℕ → Outcome
-loadedFrom list first room = load (loadedState [] 1) list first (replicate room 255)
+abbrev pub loadedFrom : List ℕ → ℕ → ℕ → Start
+loadedFrom list first room = let o = load (loadedState [] 1) list first (replicate room 255) in start (o .state) (o .store)
 
 -- the same of a list with one cluster, 20 at 1.0.4.0
-abbrev pub loadedWith : ℕ → ℕ → Outcome
+abbrev pub loadedWith : ℕ → ℕ → Start
 loadedWith first room = loadedFrom (listText "20,1.0.4.0,,") first room
 
 -- ---- transcripts
@@ -81,34 +106,36 @@ callsToProcess id n = process id gives done ∷ work n gives processed ∷ []
 abbrev pub callsToVerifying : List Made
 callsToVerifying = activate gives done ∷ report true gives done ∷ []
 
--- Verifying to Activated, and the end of the session
-abbrev pub callsToFinish : List Made
-callsToFinish = report true gives done ∷ finish gives done ∷ report true gives done ∷ []
+-- ---- cases
 
--- what the calls of a transcript, made from a Load on, end with
-abbrev pub after : Outcome → List Made → Run
-after loaded transcript = run (loaded .state) (loaded .store) (callsOf transcript)
+-- calls from a start on, with their answers, and what is looked at in the end
+pub record Case (A : Type 0) : Type 0 where
+  pub begins : Start
+  pub transcript : List Made
+  pub ending : A
 
--- each call is answered as the transcript says
-abbrev pub Holds : Outcome → List Made → Type 0
-Holds loaded transcript = after loaded transcript .made ≡ transcript
+-- cases that look at the answers alone
+abbrev pub Answered : Type 0
+Answered = Case (Unit {0})
 
--- how a list of calls ended: the calls with their answers, the manager's state and the running table
-pub record Ending : Type 0 where
-  pub made : List Made
-  pub phase : Phase
-  pub table : Table
+infix 70 from_calls_
+abbrev pub from_calls_ : Start → List Made → Answered
+from begins calls transcript = record { begins = begins; transcript = transcript; ending = tt }
 
-abbrev pub ending : List Made → Phase → Table → Ending
-ending made phase table = record { made = made; phase = phase; table = table }
+-- and those that look at more
+infix 69 _ends_
+abbrev pub _ends_ : {A : Type 0} → Answered → A → Case A
+c ends ending = record { begins = c .begins; transcript = c .transcript; ending = ending }
 
-abbrev pub endingOf : Run → Ending
-endingOf r = ending (r .made) (r .state .phase) (running (r .state))
+-- what the calls of a transcript give
+abbrev pub after : Start → List Made → Run
+after begins transcript = run (begins .state) (begins .store) (callsOf transcript)
 
--- each call is answered as the transcript says, and the manager ends in a state and with a running table
-abbrev pub Ends : Outcome → List Made → Phase → Table → Type 0
-Ends loaded transcript phase table = endingOf (after loaded transcript) ≡ ending transcript phase table
+-- every case of the table holds, where this is looked at in what the calls gave
+abbrev pub HoldLooking : {A : Type 0} → (Run → A) → List (Case A) → Type 0
+HoldLooking {A} look cases =
+    map (λ (c : Case A). let r = after (c .begins) (c .transcript) in from c .begins calls (r .made) ends look r) cases ≡ cases
 
--- the journal of a transcript
-abbrev pub journalOf : Outcome → List Made → Journal
-journalOf loaded transcript = journal (opened (loaded .state .session .beginning)) transcript
+-- every case of the table holds, where the answers alone are looked at
+abbrev pub Hold : List Answered → Type 0
+Hold = HoldLooking (λ r. tt)

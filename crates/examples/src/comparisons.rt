@@ -1,52 +1,52 @@
-// Versions compared, and needs met by a table of one cluster.
+// Versions compared, and needs met by a table.
+use crate::case::field;
 use crate::show;
-use crate::tables::table_of;
-use crate::tables::version_of;
+use crate::values::number_of;
+use crate::values::version_of;
+use cluster_list::read::read_list;
 use clusters::cluster::Need;
 use clusters::cluster::new_cluster;
 use clusters::needs::meets;
+use clusters::needs::needs_met;
+use clusters::table::append;
+use clusters::table::empty_table;
 use clusters::version::above;
+use text::version::Version;
 
-fn compare(v: &[u8], w: &[u8]) {
-    show::bytes(v);
-    show::bytes(b" above ");
-    show::bytes(w);
-    show::bytes(b": ");
-    show::yes_or_no(above(version_of(v), version_of(w)));
+// Whether a version is above another.
+pub fn compare(case: &[u8]) {
+    show::with_fields(b"% above %: ", case);
+    let v = version_of(field(case, 1));
+    let w = version_of(field(case, 2));
+    show::yes_or_no(above(v, w));
+    show::byte(b'\n');
+}
+
+// Whether a table that holds cluster 20 alone, at a version, meets a need.
+fn is_met(part: u32, least: Version, held: Version) -> bool {
+    let table = append(empty_table(), new_cluster(20, held));
+    meets(table, Need { part, least })
 }
 
 // The need of a part number at a least version, in a table that holds cluster 20 at a version.
-fn need(part: u32, least: &[u8], held: &[u8]) {
-    show::bytes(b"need of ");
-    show::number(part as u64);
-    show::bytes(b" at ");
-    show::bytes(least);
-    show::bytes(b", 20 at ");
-    show::bytes(held);
-    show::bytes(b": ");
-    let table = table_of(new_cluster(20, version_of(held)));
-    if table.count > 64 {
-        return;
-    }
-    show::yes_or_no(meets(
-        table,
-        Need {
-            part,
-            least: version_of(least),
-        },
-    ));
+pub fn need(case: &[u8]) {
+    show::with_fields(b"need of % at %, 20 at %: ", case);
+    let part = number_of(field(case, 1));
+    let least = version_of(field(case, 2));
+    let held = version_of(field(case, 3));
+    show::yes_or_no(is_met(part, least, held));
+    show::byte(b'\n');
 }
 
-pub fn show_all() {
-    compare(b"1.0.0.10", b"1.0.0.9");
-    compare(b"1.0.0.9", b"1.0.0.10");
-    compare(b"1.0.0.9", b"1.0.0.9");
-    compare(b"2.0.0.0", b"1.65535.65535.65535");
-    compare(b"1.1.0.0", b"1.0.65535.65535");
-    compare(b"1.0.1.0", b"1.0.0.65535");
-    compare(b"1.0.0.0", b"1.0.1.0");
-    need(20, b"1.0.4.0", b"1.0.4.0");
-    need(20, b"1.0.4.0", b"1.0.3.9");
-    need(20, b"1.0.4.0", b"2.0.0.0");
-    need(21, b"0.0.0.0", b"1.0.4.0");
+// Whether the table that a list says meets all its needs.
+fn list_met(list: &[u8]) -> bool {
+    let read = read_list(list);
+    needs_met(read.table)
+}
+
+// All needs of a table: what the case is of, and the list that says the table.
+pub fn needs(case: &[u8]) {
+    show::with_fields(b"%: ", case);
+    show::yes_or_no(list_met(field(case, 2)));
+    show::byte(b'\n');
 }

@@ -1,20 +1,35 @@
-// Exercises the functions on good and damaged input and prints a line for each. What it must print, the file stdout beside
-// src/, is written from document 01.
+// Exercises the functions on good and damaged input and prints what each gives. The cases are data: the file stdin beside src/ has
+// them, in the form that `case` says, and the file stdout what must be printed, written from document 01.
+mod actions;
+mod case;
 mod comparisons;
+mod kinds;
 mod lists;
 mod numbers;
 mod packages;
 mod show;
 mod sums;
-mod tables;
+mod values;
 mod versions;
 
+use crate::case::case_end;
+use crate::kinds::show_case;
+use libc::STDIN_FILENO;
+
+fn show_cases(input: &[u8]) {
+    let mut at = 0;
+    while at < input.len() {
+        let end = case_end(input, at);
+        show_case(&input[at..end]);
+        if input.len() <= end {
+            return;
+        }
+        at = end + 1;
+    }
+}
+
 fn main() {
-    numbers::show_all();
-    versions::show_all();
-    sums::show_all();
-    comparisons::show_all();
-    tables::show_all();
-    lists::show_all();
-    packages::show_all();
+    let mut input = io::large_buffer();
+    let length = io::read_full(STDIN_FILENO, &mut input);
+    show_cases(&input[..length]);
 }

@@ -1,49 +1,37 @@
 // Numbers as text.
+use crate::case::field;
 use crate::show;
+use crate::values::number_of;
 use text::number::Number;
 use text::number::whole_number;
 use text::write::number_length;
 use text::write::put_number;
 
-fn read(s: &[u8], most: u32) {
-    show::bytes(b"number `");
-    show::bytes(s);
-    show::bytes(b"` up to ");
-    show::number(most as u64);
-    show::bytes(b": ");
-    let read = whole_number(s, most);
+// A number read: the text, and the most that the number may be.
+pub fn read(case: &[u8]) {
+    show::with_fields(b"number `%` up to %: ", case);
+    let most = number_of(field(case, 2));
+    let read = whole_number(field(case, 1), most);
     match read {
-        Number::Value(value, _) => show::number(value as u64),
-        Number::IllFormed => show::bytes(b"ill-formed"),
+        Number::Value(value, _) => show::number(value),
+        Number::IllFormed => show::ill_formed(),
     }
-    show::bytes(b"\n");
+    show::byte(b'\n');
 }
 
-// The digits in a buffer of dashes, which shows the bytes before and behind them.
-fn write(n: u32) {
+// A number written in a buffer of dashes, which shows the bytes before and behind its digits.
+fn show_written(n: u32) {
     let mut buffer = [b'-'; 12];
-    show::bytes(b"number written in ");
-    show::number(number_length(n) as u64);
-    show::bytes(b" bytes: ");
     put_number(&mut buffer, 1, n);
     show::bytes(&buffer);
-    show::bytes(b"\n");
 }
 
-pub fn show_all() {
-    read(b"0", 65535);
-    read(b"00", 65535);
-    read(b"01", 65535);
-    read(b"+1", 65535);
-    read(b"", 65535);
-    read(b" 1", 65535);
-    read(b"1 ", 65535);
-    read(b"65535", 65535);
-    read(b"65536", 65535);
-    read(b"4294967295", 4294967295);
-    read(b"4294967296", 4294967295);
-    read(b"99999999999999999999", 4294967295);
-    write(0);
-    write(65535);
-    write(4294967295);
+// A number written, and how many bytes that takes.
+pub fn write(case: &[u8]) {
+    let n = number_of(field(case, 1));
+    show::bytes(b"number written in ");
+    show::count(number_length(n));
+    show::bytes(b" bytes: ");
+    show_written(n);
+    show::byte(b'\n');
 }

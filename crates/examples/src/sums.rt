@@ -1,24 +1,18 @@
-// The sum of a payload, in one part and continued over two.
+// The sum of a payload.
+use crate::case::field;
 use crate::show;
 use checksum::continue_sum;
 use checksum::number;
 use checksum::start;
 
-fn sum(first: &[u8], second: &[u8]) {
-    show::bytes(b"sum of `");
-    show::bytes(first);
-    show::bytes(b"` and `");
-    show::bytes(second);
-    show::bytes(b"`: ");
-    let sums = continue_sum(continue_sum(start(), first), second);
-    show::number(number(sums) as u64);
-    show::bytes(b"\n");
+// The sum of two parts, continued from the first to the second.
+fn sum_of(first: &[u8], second: &[u8]) -> u32 {
+    number(continue_sum(continue_sum(start(), first), second))
 }
 
-pub fn show_all() {
-    sum(b"abcde", b"");
-    sum(b"", b"");
-    sum(b"ab", b"cde");
-    sum(b"a", b"");
-    sum(b"\xff", b"");
+// The sum of two parts.
+pub fn sum(case: &[u8]) {
+    show::with_fields(b"sum of `%` and `%`: ", case);
+    show::number(sum_of(field(case, 1), field(case, 2)));
+    show::byte(b'\n');
 }

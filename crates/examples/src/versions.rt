@@ -1,40 +1,27 @@
 // Versions as text.
+use crate::case::field;
 use crate::show;
 use text::version::VersionRead;
 use text::version::whole_version;
 use text::write::put_version;
 use text::write::version_length;
 
-// A version is read and written again, in a buffer of dashes.
-fn read(s: &[u8]) {
-    show::bytes(b"version `");
-    show::bytes(s);
-    show::bytes(b"`: ");
-    let read = whole_version(s);
-    match read {
-        VersionRead::Value(version, _) => {
-            let mut buffer = [b'-'; 25];
-            show::number(version_length(version) as u64);
-            show::bytes(b" bytes ");
-            put_version(&mut buffer, 1, version);
-            show::bytes(&buffer);
-        }
-        VersionRead::IllFormed => show::bytes(b"ill-formed"),
-    }
-    show::bytes(b"\n");
+// What reading a version gives: how many bytes it has, and the version written in a buffer of dashes.
+fn show_read(text: &[u8]) {
+    let VersionRead::Value(version, _) = whole_version(text) else {
+        show::ill_formed();
+        return;
+    };
+    show::count(version_length(version));
+    show::bytes(b" bytes ");
+    let mut buffer = [b'-'; 25];
+    put_version(&mut buffer, 1, version);
+    show::bytes(&buffer);
 }
 
-pub fn show_all() {
-    read(b"1.0.4.0");
-    read(b"0.0.0.0");
-    read(b"01.0.0.0");
-    read(b"65535.0.0.0");
-    read(b"65536.0.0.0");
-    read(b"65535.65535.65535.65535");
-    read(b"0.0.0.65536");
-    read(b"1.0.0");
-    read(b"1.0.0.0.0");
-    read(b"1.0.0.0,");
-    read(b"1..0.0");
-    read(b"");
+// A version read and written again.
+pub fn read(case: &[u8]) {
+    show::with_fields(b"version `%`: ", case);
+    show_read(field(case, 1));
+    show::byte(b'\n');
 }

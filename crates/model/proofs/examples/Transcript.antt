@@ -1,4 +1,4 @@
--- What the computed examples are made of: texts, clusters, the parts of a state, a Load, transcripts (lists of calls with their
+-- What the computed examples are made of: texts, the parts of a state, a Load, transcripts (lists of calls with their
 -- answers) and the one type of cases. A table is a list of cases, and holds where every call of every case is answered as the case
 -- says and each case ends with what it says. Assumes nothing.
 use Prim.Native.Nat.{ℕ}
@@ -8,9 +8,6 @@ use mathlib.Core.Bool.{Bool, true}
 use mathlib.Core.List.{List, [], _∷_, _++_, map}
 use lib.ListN.{length, replicate, take, drop}
 use Rattle.base.specs.Quoted.{bytes, LF}
-use Rattle.text.specs.declared.version.Version.{Version}
-use Rattle.clusters.specs.declared.cluster.Need.{Need}
-use Rattle.clusters.specs.Cluster.{Cluster}
 use Rattle.clusters.specs.Table.{Table}
 use Rattle.actions.specs.Action.{Action}
 use Rattle.model.specs.State.{PackageState, Package, Transfers, Entry, Session, Work, State, Store}
@@ -31,8 +28,6 @@ listText values = line "cluster,version,needs,least" ++ line values
 abbrev pub packageText : String → String → List ℕ
 packageText values payload =
     line "action,cluster,version,payload,sum,needs,least" ++ (line values ++ LF ∷ bytes payload)
-
--- ---- clusters
 
 -- ---- the parts of a state
 

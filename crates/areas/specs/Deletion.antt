@@ -1,5 +1,4 @@
 -- What a deletion keeps. "DeleteTransfer(id)."; "deletes all Processed packages"
-use Prim.Native.Nat.{ℕ}
 use mathlib.Core.Bool.{Bool, not, cond}
 use mathlib.Core.List.{List, [], _∷_, _++_}
 use lib.Dec.{eqb}

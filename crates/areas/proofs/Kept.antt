@@ -6,8 +6,8 @@ use mathlib.Core.Bool.{true, false}
 use mathlib.Core.List.{List, [], _∷_, _++_, map, append-nil}
 use native.Mathlib.Numerals.{add-one}
 use native.Mathlib.Omega.{arith}
-use lib.ListN.{length, take, drop, getD, set, length-take, length-append}
-use lib.Seq.{take-suc, take-at}
+use lib.ListN.{length, take, getD, set, length-take, length-append}
+use lib.Seq.{take-suc}
 use Rattle.base.proofs.Tests.{bool-cases}
 use Rattle.model.specs.Areas.{remaining}
 use Rattle.model.specs.Sound.{packagesMost}
@@ -16,16 +16,9 @@ use Rattle.state.specs.declared.transfers.Transfers.{Transfers}
 use Rattle.state.specs.View.{viewPackage, viewPackages}
 use Rattle.state.proofs.Views.{packages-few}
 use Rattle.areas.specs.declared.deletion.Deletion.{Deletion}
-use Rattle.areas.specs.Deletion.{keeps, kept, putFirst, remainingTransfers}
-
--- ---- the first places of an array
-
--- a store behind those that are in use
-put-first-more : {A : Type 0} (first xs : List A) (x : A) → length first < length xs
-    → set (putFirst first xs) (length first) x ≡ putFirst (first ++ x ∷ []) xs
-put-first-more first [] x h = absurd (omega arith)
-put-first-more [] (y ∷ xs) x h = refl
-put-first-more {A} (f ∷ first) (y ∷ xs) x h = ap (λ (l : List A). f ∷ l) (put-first-more first xs x (omega arith))
+use Rattle.areas.specs.FirstPlaces.{putFirst}
+use Rattle.areas.specs.Deletion.{keeps, kept, remainingTransfers}
+use Rattle.areas.proofs.FirstPlaces.{put-first-more, take-first}
 
 -- ---- the packages that are kept
 
@@ -114,6 +107,6 @@ module _ (deletion : Deletion) where
       let remain = kept deletion counting in
       let short : length remain ≤ packagesMost = omega (arith, length-kept deletion counting, length-take (t .count) (t .packages)) in
       packages-few (remainingTransfers deletion t) short
-      ∙ ap (map viewPackage) (take-at remain (drop (length remain) (t .packages)) (length remain) refl)
+      ∙ ap (map viewPackage) (take-first remain (t .packages) (length remain) refl)
       ∙ view-kept counting
       ∙ ap (remaining (keeps deletion)) (sym (packages-few t few))

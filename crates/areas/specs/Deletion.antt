@@ -1,13 +1,14 @@
 -- What a deletion keeps. "DeleteTransfer(id)."; "deletes all Processed packages"
 use mathlib.Core.Bool.{Bool, not, cond}
-use mathlib.Core.List.{List, [], _∷_, _++_}
+use mathlib.Core.List.{List, [], _∷_}
 use lib.Dec.{eqb}
-use lib.ListN.{length, take, drop}
+use lib.ListN.{length, take}
 use Rattle.model.specs.State as model
 use Rattle.model.specs.Areas.{isProcessed}
 use Rattle.state.specs.declared.package.Package.{Package}
 use Rattle.state.specs.declared.transfers.Transfers.{Transfers}
 use Rattle.state.specs.View.{viewPackage}
+use Rattle.areas.specs.FirstPlaces.{putFirst}
 use Rattle.areas.specs.declared.deletion.Deletion.{Deletion}
 use Rattle.areas.specs.declared.deletion.Deletion.the-variants.{WithId, AllProcessed}
 
@@ -20,10 +21,6 @@ keeps AllProcessed p = not (isProcessed (p .state))
 unfoldable pub kept : Deletion → List Package → List Package
 kept deletion [] = []
 kept deletion (p ∷ ps) = cond (keeps deletion (viewPackage p)) (p ∷ kept deletion ps) (kept deletion ps)
-
--- the first places of an array in use by others; those behind them keep what they held
-abbrev pub putFirst : {A : Type 0} → List A → List A → List A
-putFirst first xs = first ++ drop (length first) xs
 
 -- the kept packages at the front
 unfoldable pub remainingTransfers : Deletion → Transfers → Transfers

@@ -1,0 +1,41 @@
+// Load: "Load takes such a list (any other text is ill-formed), a first transfer id 1 to 4,294,967,295, a lent store of at most
+// 16,777,216 bytes, and a state that it gives back when refused. It fills the store with 0 and gives the state Idle."
+use cluster_list::read::ListAnswer;
+use cluster_list::read::read_list;
+use state::answer::Answer;
+use state::answer::Answered;
+use state::answer::answer_with;
+use state::answer::refused;
+use state::limits::STORE_MOST;
+use state::refusal::BAD_LOAD;
+use state::state::State;
+use state::state::loaded_state;
+ghost use mathlib.Core.Path.{_≡_};
+ghost use mathlib.Core.Bool.{true};
+ghost use Rattle.model.specs.Load as model;
+ghost use Rattle.model.specs.Sound.{sound};
+ghost use Rattle.state.specs.View.{viewState};
+ghost use Rattle.state.specs.Outcome.{outcome, viewOutcome};
+ghost use Rattle.load.specs.Exact.{load};
+
+// The refusals that are cheap to see come first: they all have one number.
+pub fn load(s: State, list: &[u8], first: u32, store: &mut [u8]) -> Answered
+    ensures meaning { λ r. ⌜ viewOutcome (outcome r (now (store .exit))) ≡ model.load (viewState s) (now (list .entry)) first (now (store .entry)) ⌝ }
+    ensures exact { λ r. ⌜ outcome r (now (store .exit)) ≡ load s (now (list .entry)) first (now (store .entry)) ⌝ }
+    ensures sound { λ r. ⌜ (r .answer ≡ Answer.Done → sound (viewState (r .state)) (now (store .exit)) ≡ true) ⌝ }
+{
+    if store.len() > STORE_MOST {
+        return refused(s, BAD_LOAD);
+    }
+    if first < 1 {
+        return refused(s, BAD_LOAD);
+    }
+    let read = read_list(list);
+    let answer = read.answer;
+    let ListAnswer::WellFormed = answer else {
+        return refused(s, BAD_LOAD);
+    };
+    let loaded = loaded_state(read.table, first);
+    store::clear(store);
+    answer_with(Answer::Done, loaded)
+}

@@ -1,0 +1,75 @@
+// The records of Packages: "records (id, size, received, state) in id order".
+use state::limits::PACKAGES_MOST;
+use state::package::Package;
+use state::package::PackageState;
+use state::transfers::Transfers;
+ghost use mathlib.Core.Path.{_≡_};
+ghost use mathlib.Core.List.{map};
+ghost use Prim.Native.Nat.{_≤_};
+ghost use Rattle.model.specs.State.{packageStateNumber};
+ghost use Rattle.model.specs.Sound.{packagesMost};
+ghost use Rattle.model.specs.Reading.{packageRecord};
+ghost use Rattle.state.specs.View.{viewPackageState, viewPackages};
+ghost use Rattle.packages.specs.Records.{recordOf, recordsOf, viewRecords};
+
+pub struct Record {
+    pub id: u32,
+    pub size: u32,
+    pub received: u32,
+    pub state: u32,
+}
+
+// The first count of the records count; the places behind them are 0.
+pub struct Records {
+    pub records: [Record; PACKAGES_MOST],
+    pub count: usize,
+}
+
+fn state_number(state: PackageState) -> u32
+    ensures { λ r. ⌜ r ≡ packageStateNumber (viewPackageState state) ⌝ }
+{
+    match state {
+        PackageState::Transferring => 0,
+        PackageState::Transferred => 1,
+        PackageState::Processing => 2,
+        PackageState::Processed => 3,
+    }
+}
+
+fn record_of(p: Package) -> Record
+    ensures { λ r. ⌜ r ≡ recordOf p ⌝ }
+{
+    let state = p.state;
+    Record {
+        id: p.id,
+        size: p.size,
+        received: p.received,
+        state: state_number(state),
+    }
+}
+
+// The records of all packages. A sound state meets what is required.
+pub fn package_records(t: Transfers) -> Records
+    requires { ⌜ t .count ≤ packagesMost ⌝ }
+    ensures meaning { λ r. ⌜ viewRecords r ≡ map packageRecord (viewPackages t) ⌝ }
+    ensures exact { λ r. ⌜ r ≡ recordsOf t ⌝ }
+{
+    let count = t.count;
+    let cleared = Record {
+        id: 0,
+        size: 0,
+        received: 0,
+        state: 0,
+    };
+    let mut records = [cleared; PACKAGES_MOST];
+    let mut i = 0;
+    while i < count {
+        let p = t.packages[i];
+        records[i] = record_of(p);
+        i += 1;
+    }
+    Records {
+        records: records,
+        count: count,
+    }
+}

@@ -6,6 +6,7 @@ ghost use Rattle.package_heading.specs.Heading.{onlyPart, removeHeading,
 ghost use Rattle.package_heading.specs.Found.{headingFound};
 use crate::change::ChangeRead;
 use crate::change::change_of;
+use actions::action::Change;
 use cluster_list::cells::NeedRead;
 use cluster_list::cells::need_fields;
 use cluster_list::cells::part_field;

@@ -1,0 +1,3 @@
+pub mod Along
+pub mod OnePackage
+pub mod Order

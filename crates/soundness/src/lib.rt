@@ -1,0 +1,2 @@
+// Whether a state is sound for a store of a length.
+mod packages;

@@ -6,9 +6,9 @@ use mathlib.Core.Option.{none, some}
 use lib.ListN.{length}
 use borrow.Author.Tests.{lt-leb, le-leb}
 use Rattle.clusters.specs.declared.cluster.Need.{Need}
-use Rattle.clusters.specs.Cluster.{Cluster, needsMost}
+use Rattle.clusters.specs.Cluster.{Cluster, withNeed, needsMost}
 use Rattle.clusters.specs.Table.{Table, clustersMost}
-use Rattle.cluster_list.specs.Read.{lastPart, withNeed, needAdded, clusterAdded}
+use Rattle.cluster_list.specs.Read.{lastPart, needAdded, clusterAdded}
 
 pub last-part : (front : Table) (c : Cluster) → lastPart (front ++ c ∷ []) ≡ c .part
 unfolding lastPart

@@ -29,7 +29,7 @@ use Rattle.rows.proofs.LineBounds.{line-at-after}
 use Rattle.clusters.specs.declared.cluster.Need.{Need}
 use Rattle.clusters.specs.declared.cluster.Cluster.{Cluster as ClusterStruct}
 use Rattle.clusters.specs.declared.table.Table.{Table as TableStruct}
-use Rattle.clusters.specs.Cluster.{Cluster, needsMost}
+use Rattle.clusters.specs.Cluster.{Cluster, cluster, needsMost}
 use Rattle.clusters.specs.Table.{Table, risingAbove, tableWithin}
 use Rattle.clusters.specs.View.{viewCluster, viewTable}
 use Rattle.clusters.specs.Struct.{structCluster, structTable}
@@ -104,11 +104,11 @@ built-cluster : (x : ClusterStruct) (c : Cluster) → length (c .needs) ≤ need
 built-cluster x c h e = ap viewCluster e ∙ view-struct-cluster c h
 
 module _ (part : ℕ) (version : Version) (x : ClusterStruct) (e : x ≡ newCluster part version) where
-  new-struct : x ≡ structCluster (record { part = part; version = version; needs = [] })
+  new-struct : x ≡ structCluster (cluster part version [])
   new-struct = e ∙ struct-new-cluster part version
 
-  new-view : viewCluster x ≡ record { part = part; version = version; needs = [] }
-  new-view = built-cluster x (record { part = part; version = version; needs = [] }) (omega arith) new-struct
+  new-view : viewCluster x ≡ cluster part version []
+  new-view = built-cluster x (cluster part version []) (omega arith) new-struct
 
   pub new-room : x .«need_count» < 4
   unfolding newCluster
@@ -118,23 +118,23 @@ module _ (part : ℕ) (version : Version) (x : ClusterStruct) (e : x ≡ newClus
   new-built = new-struct ∙ ap structCluster (sym new-view)
 
   pub new-added : (r : ListRead) (t : Table) → r ≡ listRead (clusterAdded t (viewCluster x))
-      → r ≡ listRead (clusterAdded t (record { part = part; version = version; needs = [] }))
+      → r ≡ listRead (clusterAdded t (cluster part version []))
   new-added r t f = f ∙ ap (λ (c : Cluster). listRead (clusterAdded t c)) new-view
 
   module _ (n : Need) (y : ClusterStruct) (d : y ≡ withNeed x n) where
-    first-struct : y ≡ structCluster (record { part = part; version = version; needs = n ∷ [] })
+    first-struct : y ≡ structCluster (cluster part version (n ∷ []))
     first-struct =
         d ∙ ap (λ (z : ClusterStruct). withNeed z n) new-struct
-        ∙ struct-with-need (record { part = part; version = version; needs = [] }) n (omega arith)
+        ∙ struct-with-need (cluster part version []) n (omega arith)
 
-    first-view : viewCluster y ≡ record { part = part; version = version; needs = n ∷ [] }
-    first-view = built-cluster y (record { part = part; version = version; needs = n ∷ [] }) (omega arith) first-struct
+    first-view : viewCluster y ≡ cluster part version (n ∷ [])
+    first-view = built-cluster y (cluster part version (n ∷ [])) (omega arith) first-struct
 
     pub first-built : y ≡ structCluster (viewCluster y)
     first-built = first-struct ∙ ap structCluster (sym first-view)
 
     pub first-added : (r : ListRead) (t : Table) → r ≡ listRead (clusterAdded t (viewCluster y))
-        → r ≡ listRead (clusterAdded t (record { part = part; version = version; needs = n ∷ [] }))
+        → r ≡ listRead (clusterAdded t (cluster part version (n ∷ [])))
     first-added r t f = f ∙ ap (λ (c : Cluster). listRead (clusterAdded t c)) first-view
 
 -- ---- the two kinds of line: w and v are the fields cluster and version

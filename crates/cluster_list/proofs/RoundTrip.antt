@@ -27,11 +27,11 @@ use Rattle.rows.proofs.LineBack.{line-stands, cell-stands}
 use Rattle.rows.proofs.LineBounds.{line-at-after, line-at-inside}
 use Rattle.rows.proofs.NamesLine.{cluster-names-end, cluster-names-columns}
 use Rattle.clusters.specs.declared.cluster.Need.{Need}
-use Rattle.clusters.specs.Cluster.{Cluster, partWithin, needWithin, needsWithin, needsMost, clusterWithin}
+use Rattle.clusters.specs.Cluster.{Cluster, cluster, withNeed, partWithin, needWithin, needsWithin, needsMost, clusterWithin}
 use Rattle.clusters.specs.Table.{Table, clustersMost, risingAbove, tableWithin}
 use Rattle.cluster_list.specs.declared.cells.NeedRead.the-variants.{Filled, Empty}
 use Rattle.cluster_list.specs.Cells.{partField, needOf}
-use Rattle.cluster_list.specs.Read.{lastPart, withNeed, needAdded, clusterAdded, needLine, clusterBegun, clusterLine, valueLine, valueLines, readList}
+use Rattle.cluster_list.specs.Read.{lastPart, needAdded, clusterAdded, needLine, clusterBegun, clusterLine, valueLine, valueLines, readList}
 use Rattle.cluster_list.specs.Write.{namesLine, needLineText, needLinesText, clusterLines, clustersText, writeList}
 use Rattle.cluster_list.proofs.ThenLaws.{some-byte}
 use Rattle.cluster_list.proofs.Last.{last-part, need-added, cluster-added}
@@ -78,12 +78,12 @@ module _ (l : List ℕ) where
   module _ (t : Table) (part : ℕ) (version : Version) (h : partWithin part ≡ true) (w : versionWithin version ≡ true)
       (e₀ : cell 0 l ≡ digits part) (e₁ : cell 1 l ≡ versionText version) where
     cluster-line-back : (n : Need) → needWithin n ≡ true → cell 2 l ≡ digits (n .part) → cell 3 l ≡ versionText (n .least)
-        → valueLine written l t ≡ clusterAdded t (record { part = part; version = version; needs = n ∷ [] })
+        → valueLine written l t ≡ clusterAdded t (cluster part version (n ∷ []))
     unfolding valueLine clusterLine clusterBegun
     cluster-line-back n o e₂ e₃ = rw (e₀, e₁, e₂, e₃, part-some part, part-back part h, whole-version-back version w, need-back n o)
 
     bare-line-back : cell 2 l ≡ [] → cell 3 l ≡ []
-        → valueLine written l t ≡ clusterAdded t (record { part = part; version = version; needs = [] })
+        → valueLine written l t ≡ clusterAdded t (cluster part version [])
     unfolding valueLine clusterLine clusterBegun
     bare-line-back e₂ e₃ = rw (e₀, e₁, e₂, e₃, part-some part, part-back part h, whole-version-back version w, no-need-back)
 
@@ -120,7 +120,7 @@ module _ (s : List ℕ) (at : ℕ) (w x y z rest : List ℕ)
 
 -- a cluster with more needs
 abbrev withNeeds : Cluster → List Need → Cluster
-withNeeds c ns = record { part = c .part; version = c .version; needs = c .needs ++ ns }
+withNeeds c ns = cluster (c .part) (c .version) (c .needs ++ ns)
 
 module _ (s : List ℕ) (front : Table) (rest : List ℕ) (r : Option Table) where
   needs-back : (ns : List Need) (c : Cluster) → needsWithin ns ≡ true → length (c .needs) + length ns ≤ needsMost
@@ -148,8 +148,8 @@ module _ (s : List ℕ) (front : Table) (rest : List ℕ) (r : Option Table) whe
 module _ (s : List ℕ) (front : Table) (rest : List ℕ) (r : Option Table) (part : ℕ) (version : Version)
     (h : partWithin part ≡ true) (w : versionWithin version ≡ true) (few : length front < clustersMost) (above : lastPart front < part) where
   cluster-back : (ns : List Need) → needsWithin ns ≡ true → length ns ≤ needsMost
-      → GoesOn s rest (front ++ record { part = part; version = version; needs = ns } ∷ []) r
-      → GoesOn s (clusterLines (record { part = part; version = version; needs = ns }) ++ rest) front r
+      → GoesOn s rest (front ++ cluster part version ns ∷ []) r
+      → GoesOn s (clusterLines (cluster part version ns) ++ rest) front r
   unfolding needsWithin clusterLines needLinesText
   cluster-back [] n o go at steps e f =
       let e′ : drop at s ≡ lineText (digits part ∷ versionText version ∷ [] ∷ [] ∷ []) ++ rest = e ∙ rw append-nil in
@@ -173,7 +173,7 @@ module _ (s : List ℕ) (front : Table) (rest : List ℕ) (r : Option Table) (pa
       (cluster-line-back (drop at s) front part version h w (there 0 (omega arith)) (there 1 (omega arith))
       n (and-left (needWithin n) _ v) (there 2 (omega arith)) (there 3 (omega arith))
       ∙ cluster-added front _ few above)
-      (needs-back s front rest r ns (record { part = part; version = version; needs = n ∷ [] }) (and-right (needWithin n) _ v) (omega arith) go)
+      (needs-back s front rest r ns (cluster part version (n ∷ [])) (and-right (needWithin n) _ v) (omega arith) go)
 
 -- ---- the whole list
 

@@ -18,14 +18,14 @@ use Rattle.rows.specs.Line.{lineFrom}
 use Rattle.rows.specs.Columns.{clusterColumns}
 use Rattle.rows.proofs.ThenLaws.{then-cases-line, then-cases-cluster-columns}
 use Rattle.clusters.specs.declared.cluster.Need.{Need}
-use Rattle.clusters.specs.Cluster.{Cluster, partWithin, needWithin, needsWithin, needsMost, clusterWithin}
+use Rattle.clusters.specs.Cluster.{Cluster, cluster, withNeed, partWithin, needWithin, needsWithin, needsMost, clusterWithin}
 use Rattle.clusters.specs.Table.{Table, risingAbove, tableWithin, clustersMost}
 use Rattle.clusters.proofs.Limits.{rising-says, rising-is, few-clusters, rising-clusters}
 use Rattle.clusters.specs.View.{viewTable}
 use Rattle.clusters.proofs.Structs.{view-struct}
 use Rattle.cluster_list.specs.declared.read.ListRead.{ListRead}
 use Rattle.cluster_list.specs.Cells.{partField, needFields}
-use Rattle.cluster_list.specs.Read.{andThenSome, lastPart, clusterAdded, withNeed, needAdded, needLine, clusterBegun, clusterLine, valueLine, valueLines, readList, listRead, tableRead}
+use Rattle.cluster_list.specs.Read.{andThenSome, lastPart, clusterAdded, needAdded, needLine, clusterBegun, clusterLine, valueLine, valueLines, readList, listRead, tableRead}
 use Rattle.cluster_list.proofs.ThenLaws.{then-cases-need}
 use Rattle.cluster_list.proofs.CellsWithin.{part-read-within, need-read-within}
 
@@ -147,9 +147,9 @@ module _ (columns : ClusterColumns) (l : List ℕ) (t : Table) (h : tableWithin 
       let part-fine = part-read-within (cell (columns .cluster) l) part behind e in
       let version-fine = whole-version-limits (cell (columns .version) l) version next _ refl f in
       then-cases-need Within none _ (needFields columns l) _ tt
-      (λ g. cluster-added-within t _ h (cluster-is-within (record { part = part; version = version; needs = [] }) part-fine version-fine (omega arith) no-need-within))
+      (λ g. cluster-added-within t _ h (cluster-is-within (cluster part version []) part-fine version-fine (omega arith) no-need-within))
       λ n g. cluster-added-within t _ h
-      (cluster-is-within (record { part = part; version = version; needs = n ∷ [] }) part-fine version-fine (omega arith)
+      (cluster-is-within (cluster part version (n ∷ [])) part-fine version-fine (omega arith)
       (one-need-within n (need-read-within (cell (columns .needs) l) (cell (columns .least) l) n g)))
 
   pub value-line-within : Within (valueLine columns l t)

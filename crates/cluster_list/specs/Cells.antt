@@ -11,6 +11,7 @@ use Rattle.text.specs.Then.{andThen, andThenVersion}
 use Rattle.rows.specs.declared.columns.ClusterColumns.{ClusterColumns}
 use Rattle.rows.specs.Field.{cell, isEmpty}
 use Rattle.clusters.specs.declared.cluster.Need.{Need}
+use Rattle.clusters.specs.Cluster.{need}
 use Rattle.cluster_list.specs.declared.cells.NeedRead.{NeedRead}
 use Rattle.cluster_list.specs.declared.cells.NeedRead.the-variants.{Filled, Empty, IllFormed}
 
@@ -27,7 +28,7 @@ needOf needs least =
     (cond (isEmpty least) Empty IllFormed)
     (andThen IllFormed (partField needs) λ part behind-part.
     andThenVersion IllFormed (wholeVersion least) λ version behind-version.
-    Filled (record { part = part; least = version }))
+    Filled (need part version))
 
 -- the fields needs and least of the line that a text begins with
 abbrev pub needFields : ClusterColumns → List ℕ → NeedRead

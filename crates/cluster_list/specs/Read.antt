@@ -14,7 +14,7 @@ use Rattle.rows.specs.Field.{cell, isEmpty}
 use Rattle.rows.specs.Line.{lineFrom, andThenLine}
 use Rattle.rows.specs.Columns.{clusterColumns, andThenClusterColumns}
 use Rattle.clusters.specs.declared.cluster.Need.{Need}
-use Rattle.clusters.specs.Cluster.{Cluster, needsMost}
+use Rattle.clusters.specs.Cluster.{Cluster, cluster, withNeed, needsMost}
 use Rattle.clusters.specs.Table.{Table, clustersMost, tableWithin}
 use Rattle.clusters.specs.declared.table.Table.{Table as TableStruct}
 use Rattle.clusters.specs.View.{viewTable}
@@ -40,10 +40,6 @@ lastPart (c ∷ (d ∷ t)) = lastPart (d ∷ t)
 unfoldable pub clusterAdded : Table → Cluster → Option Table
 clusterAdded t c = cond (leb clustersMost (length t)) none (cond (leb (c .part) (lastPart t)) none (some (t ++ c ∷ [])))
 
--- a cluster with one need more
-abbrev pub withNeed : Cluster → Need → Cluster
-withNeed c n = record { part = c .part; version = c .version; needs = c .needs ++ n ∷ [] }
-
 -- "adds a need to the cluster above it", which there must be, with "0 to 4 needs"
 unfoldable pub needAdded : Table → Need → Option Table
 needAdded [] n = none
@@ -57,8 +53,8 @@ needLine columns l t = andThenNeed none none (needFields columns l) λ n. needAd
 -- "A line that begins a cluster has both of these filled or both empty." The cluster has no need or the one filled in
 unfoldable pub clusterBegun : Table → ℕ → Version → NeedRead → Option Table
 clusterBegun t part version need =
-    andThenNeed none (clusterAdded t (record { part = part; version = version; needs = [] })) need λ n.
-    clusterAdded t (record { part = part; version = version; needs = n ∷ [] })
+    andThenNeed none (clusterAdded t (cluster part version [])) need λ n.
+    clusterAdded t (cluster part version (n ∷ []))
 
 unfoldable pub clusterLine : ClusterColumns → List ℕ → Table → Option Table
 clusterLine columns l t =

@@ -1,70 +1,22 @@
--- What is found in a table after a change, and what a table's order says of what is found. Assumes nothing.
-use mathlib.Core.Path.{_≡_, refl, sym, ap, subst}
-use mathlib.Core.Bool.{Bool, true, false, cond, true≢false, false≢true}
-use mathlib.Core.List.{[], _∷_}
+-- What is found of a part number says whether it is present and whether a need is met. Assumes nothing.
+use mathlib.Core.Path.{_≡_, refl}
+use mathlib.Core.Bool.{Bool, true, false, true≢false, false≢true}
 use mathlib.Core.Option.{Option, none, some}
 use Prim.Native.Nat.{ℕ}
-use lib.Dec.{ltb, eqb}
-use borrow.Author.Tests.{eqb-true, eq-eqb}
-use Rattle.base.proofs.Tests.{bool-cases, none-some}
+use Rattle.clusters.specs.declared.cluster.Need.{Need}
+use Rattle.clusters.specs.Version.{atOrAbove}
 use Rattle.clusters.specs.Cluster.{Cluster}
-use Rattle.clusters.specs.Table.{Table, find, present, insert, replace, takeOut}
+use Rattle.clusters.specs.Table.{Table, find, present, meets}
 
--- ---- another cluster than the changed one
+-- ---- presence
 
-module _ (part : ℕ) (c : Cluster) (h : eqb part (c .part) ≡ false) where
-  pub insert-other : (t : Table) → find part (insert c t) ≡ find part t
-  unfolding find insert
-  insert-other [] = rw h
-  insert-other (d ∷ t) =
-      let ih = insert-other t in
-      bool-cases (ltb (c .part) (d .part)) (λ l. rw l (rw h)) λ l. rw l (ap (cond (eqb part (d .part)) (some d)) ih)
+pub present-none : (part : ℕ) (t : Table) → find part t ≡ none → present part t ≡ false
+unfolding present
+present-none part t e = rw (present, e)
 
-  pub replace-other : (t : Table) → find part (replace c t) ≡ find part t
-  unfolding find replace
-  replace-other [] = refl
-  replace-other (d ∷ t) =
-      let ih = replace-other t in
-      bool-cases (eqb (c .part) (d .part))
-      (λ e. let z : eqb part (d .part) ≡ false = subst (λ (j : ℕ). eqb part j ≡ false) (eqb-true _ _ e) h in rw (e, h, z) ih)
-      λ e. rw e (ap (cond (eqb part (d .part)) (some d)) ih)
-
-module _ (part gone : ℕ) (h : eqb part gone ≡ false) where
-  pub take-out-other : (t : Table) → find part (takeOut gone t) ≡ find part t
-  unfolding find takeOut
-  take-out-other [] = refl
-  take-out-other (d ∷ t) =
-      let ih = take-out-other t in
-      bool-cases (eqb gone (d .part))
-      (λ e. let z : eqb part (d .part) ≡ false = subst (λ (j : ℕ). eqb part j ≡ false) (eqb-true _ _ e) h in rw (e, z) ih)
-      λ e. rw e (ap (cond (eqb part (d .part)) (some d)) ih)
-
--- ---- the changed cluster
-
-eqb-same : (n : ℕ) → eqb n n ≡ true
-eqb-same n = eq-eqb n n refl
-
-pub insert-same : (c : Cluster) (t : Table) → find (c .part) t ≡ none → find (c .part) (insert c t) ≡ some c
-unfolding find insert
-insert-same c [] e = rw (eqb-same (c .part))
-insert-same c (d ∷ t) e =
-    let ih : find (c .part) t ≡ none → find (c .part) (insert c t) ≡ some c = insert-same c t in
-    bool-cases (ltb (c .part) (d .part)) (λ l. rw l (rw (eqb-same (c .part))))
-    λ l. rw l (bool-cases (eqb (c .part) (d .part)) (λ z. none-some (sym (rw z at e))) λ z. rw z (ih (rw z at e)))
-
-pub replace-same : (c old : Cluster) (t : Table) → find (c .part) t ≡ some old → find (c .part) (replace c t) ≡ some c
-unfolding find replace
-replace-same c old [] e = none-some e
-replace-same c old (d ∷ t) e =
-    let ih : find (c .part) t ≡ some old → find (c .part) (replace c t) ≡ some c = replace-same c old t in
-    bool-cases (eqb (c .part) (d .part)) (λ z. rw z (rw (eqb-same (c .part)))) λ z. rw (z, z) (ih (rw z at e))
-
-pub take-out-same : (part : ℕ) (t : Table) → find part (takeOut part t) ≡ none
-unfolding find takeOut
-take-out-same part [] = refl
-take-out-same part (d ∷ t) = let ih = take-out-same part t in bool-cases (eqb part (d .part)) (λ z. rw z ih) λ z. rw (z, z) ih
-
--- ---- presence, read
+pub present-some : (part : ℕ) (t : Table) (c : Cluster) → find part t ≡ some c → present part t ≡ true
+unfolding present
+present-some part t c e = rw (present, e)
 
 pub absent-is : (part : ℕ) (t : Table) → present part t ≡ false → find part t ≡ none
 unfolding present
@@ -81,3 +33,13 @@ present-is part t = go (find part t)
     go : (o : Option Cluster) → elim o as (λ x. Bool) [ none ↦ false | some c ↦ true ] ≡ true → (c : Cluster) × (o ≡ some c)
     go none e = absurd (false≢true e)
     go (some c) e = (c, refl)
+
+-- ---- a need
+
+pub meets-none : (t : Table) (n : Need) → find (n .part) t ≡ none → meets t n ≡ false
+unfolding meets
+meets-none t n e = rw (meets, e)
+
+pub meets-some : (t : Table) (n : Need) (c : Cluster) → find (n .part) t ≡ some c → meets t n ≡ atOrAbove (c .version) (n .least)
+unfolding meets
+meets-some t n c e = rw (meets, e)

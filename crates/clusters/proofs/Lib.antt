@@ -1,11 +1,9 @@
 pub mod Arrays
 pub mod Along
-pub mod Finding
-pub mod Changes
 pub mod Limits
-pub mod InTurn
+pub mod Finding
 pub mod Equal
 pub mod Placing
-pub mod Answers
+pub mod ColumnLaws
 pub mod Views
 pub mod Structs

@@ -13,14 +13,12 @@ use Rattle.text.specs.declared.version.Version.{Version}
 use Rattle.clusters.specs.declared.cluster.Need.{Need}
 use Rattle.clusters.specs.declared.cluster.Cluster.{Cluster as ClusterStruct}
 use Rattle.clusters.specs.declared.table.Table.{Table as TableStruct}
-use Rattle.clusters.specs.Cluster.{Cluster, needsMost}
+use Rattle.clusters.specs.Cluster.{Cluster, cluster, withNeed, needsMost}
 use Rattle.clusters.specs.Table.{Table, tableWithin, risingAbove, clustersMost}
-use Rattle.clusters.specs.Action.{Action, install, update, remove, actionWithin}
-use Rattle.clusters.specs.View.{noNeed, noCluster, viewCluster, viewTable, viewAction}
-use Rattle.clusters.specs.Struct.{padded, structCluster, clearedCluster, structTable, structAction}
+use Rattle.clusters.specs.View.{noNeed, noCluster, viewCluster, viewTable}
+use Rattle.clusters.specs.Struct.{padded, structCluster, clearedCluster, structTable}
 use Rattle.clusters.specs.Exact as exact
 use Rattle.clusters.proofs.Limits.{rising-says, few-clusters, rising-clusters, cluster-few-needs}
-use Rattle.clusters.proofs.Views.{moreNeeds}
 
 -- ---- lists with room behind them
 
@@ -47,11 +45,11 @@ module _ {A : Type 0} where
 
 -- ---- clusters
 
-pub struct-new-cluster : (part : ℕ) (version : Version) → exact.newCluster part version ≡ structCluster (record { part = part; version = version; needs = [] })
+pub struct-new-cluster : (part : ℕ) (version : Version) → exact.newCluster part version ≡ structCluster (cluster part version [])
 unfolding exact.newCluster structCluster
 struct-new-cluster part version = refl
 
-pub struct-with-need : (c : Cluster) (n : Need) → length (c .needs) < needsMost → exact.withNeed (structCluster c) n ≡ structCluster (moreNeeds c n)
+pub struct-with-need : (c : Cluster) (n : Need) → length (c .needs) < needsMost → exact.withNeed (structCluster c) n ≡ structCluster (withNeed c n)
 unfolding exact.withNeed structCluster
 struct-with-need c n h =
     ap₂ {C = ClusterStruct} (λ (needs : List Need) (count : ℕ). record { part = c .part; version = c .version; needs = needs; «need_count» = count })
@@ -60,7 +58,7 @@ struct-with-need c n h =
 pub view-struct-cluster : (c : Cluster) → length (c .needs) ≤ needsMost → viewCluster (structCluster c) ≡ c
 unfolding structCluster
 view-struct-cluster c h =
-    ap {B = Cluster} (λ (needs : List Need). record { part = c .part; version = c .version; needs = needs })
+    ap (cluster (c .part) (c .version))
     (counted-few needsMost (length (c .needs)) noNeed (padded needsMost noNeed (c .needs)) h ∙ seen-all needsMost noNeed (c .needs))
 
 -- ---- tables
@@ -80,10 +78,10 @@ struct-append t c h =
     (sym (length-one-more t c))
 
 pub struct-with-need-at-last : (front : Table) (c : Cluster) (n : Need) → length (c .needs) < needsMost
-    → exact.withNeedAtLast (structTable (front ++ c ∷ [])) n ≡ structTable (front ++ moreNeeds c n ∷ [])
+    → exact.withNeedAtLast (structTable (front ++ c ∷ [])) n ≡ structTable (front ++ withNeed c n ∷ [])
 unfolding exact.withNeedAtLast structTable
 struct-with-need-at-last front c n h =
-    let more = moreNeeds c n in
+    let more = withNeed c n in
     let xs = map structCluster front in
     let m = length front in
     let room = replicate (clustersMost - length (xs ++ structCluster c ∷ [])) clearedCluster in
@@ -112,11 +110,3 @@ view-struct t h =
     viewed last (c ∷ u) r =
         let s = rising-says last c u r in
         ap₂ _∷_ (view-struct-cluster c (leb-true (length (c .needs)) needsMost (cluster-few-needs c (s .within)))) (viewed (c .part) u (s .rest))
-
--- ---- actions
-
-pub view-struct-action : (a : Action) → actionWithin a ≡ true → viewAction (structAction a) ≡ a
-unfolding structAction actionWithin
-view-struct-action (install c) h = ap install (view-struct-cluster c (leb-true (length (c .needs)) needsMost (cluster-few-needs c h)))
-view-struct-action (update c) h = ap update (view-struct-cluster c (leb-true (length (c .needs)) needsMost (cluster-few-needs c h)))
-view-struct-action (remove part) h = ap remove (unfold structCluster in refl)

@@ -1,7 +1,7 @@
 -- Clusters, their needs and limits.
 use Prim.Native.Nat.{ℕ}
 use mathlib.Core.Bool.{Bool, true, _&&_}
-use mathlib.Core.List.{List, [], _∷_}
+use mathlib.Core.List.{List, [], _∷_, _++_}
 use lib.Dec.{leb}
 use lib.ListN.{length}
 use Rattle.text.specs.declared.version.Version.{Version}
@@ -13,6 +13,16 @@ pub record Cluster : Type 0 where
   pub part : ℕ
   pub version : Version
   pub needs : List Need
+
+abbrev pub cluster : ℕ → Version → List Need → Cluster
+cluster part version needs = record { part = part; version = version; needs = needs }
+
+abbrev pub need : ℕ → Version → Need
+need part least = record { part = part; least = least }
+
+-- a cluster with one need more, behind the others
+abbrev pub withNeed : Cluster → Need → Cluster
+withNeed c n = cluster (c .part) (c .version) (c .needs ++ n ∷ [])
 
 -- "a part number 1 to 4,294,967,295"
 unfoldable pub partWithin : ℕ → Bool

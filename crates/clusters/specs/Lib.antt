@@ -1,9 +1,8 @@
 pub mod Version
 pub mod Cluster
 pub mod Table
-pub mod Action
 pub mod View
 pub mod Struct
 pub mod Place
+pub mod Columns
 pub mod Exact
-pub mod Refused

@@ -1,16 +1,11 @@
 -- The struct that stands for a plain value with every unused place cleared: what the readers of text build.
 use Prim.Native.Nat.{ℕ, _-_}
-use mathlib.Core.List.{List, [], _∷_, _++_, map}
+use mathlib.Core.List.{List, _++_, map}
 use lib.ListN.{length, replicate}
-use Rattle.text.specs.declared.version.Version.{Version}
-use Rattle.clusters.specs.declared.cluster.Need.{Need}
 use Rattle.clusters.specs.declared.cluster.Cluster.{Cluster as ClusterStruct}
 use Rattle.clusters.specs.declared.table.Table.{Table as TableStruct}
-use Rattle.clusters.specs.declared.action.Change.the-variants.{Install, Update, Remove}
-use Rattle.clusters.specs.declared.action.Action.{Action as ActionStruct}
 use Rattle.clusters.specs.Cluster.{Cluster, needsMost}
 use Rattle.clusters.specs.Table.{Table, clustersMost}
-use Rattle.clusters.specs.Action.{Action, install, update, remove}
 use Rattle.clusters.specs.View.{noVersion, noNeed}
 
 -- the elements, and then the cleared one up to the array's room
@@ -26,8 +21,3 @@ clearedCluster = record { part = 0; version = noVersion; needs = replicate needs
 
 unfoldable pub structTable : Table → TableStruct
 structTable t = record { clusters = padded clustersMost clearedCluster (map structCluster t); count = length t }
-
-unfoldable pub structAction : Action → ActionStruct
-structAction (install c) = record { change = Install; cluster = structCluster c }
-structAction (update c) = record { change = Update; cluster = structCluster c }
-structAction (remove part) = record { change = Remove; cluster = structCluster (record { part = part; version = noVersion; needs = [] }) }

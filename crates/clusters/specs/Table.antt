@@ -21,21 +21,6 @@ find part (c ∷ t) = cond (eqb part (c .part)) (some c) (find part t)
 unfoldable pub present : ℕ → Table → Bool
 present part t = elim (find part t) [ none ↦ false | some c ↦ true ]
 
--- the cluster before the first with a larger part number
-unfoldable pub insert : Cluster → Table → Table
-insert c [] = c ∷ []
-insert c (d ∷ t) = cond (ltb (c .part) (d .part)) (c ∷ d ∷ t) (d ∷ insert c t)
-
--- the cluster in the place of the one with its part number
-unfoldable pub replace : Cluster → Table → Table
-replace c [] = []
-replace c (d ∷ t) = cond (eqb (c .part) (d .part)) (c ∷ replace c t) (d ∷ replace c t)
-
--- the table without the cluster with a part number
-unfoldable pub takeOut : ℕ → Table → Table
-takeOut part [] = []
-takeOut part (d ∷ t) = cond (eqb part (d .part)) (takeOut part t) (d ∷ takeOut part t)
-
 -- "It is met by a table that holds that cluster at the least version or above"
 unfoldable pub meets : Table → Need → Bool
 meets t n = elim (find (n .part) t) [ none ↦ false | some c ↦ atOrAbove (c .version) (n .least) ]

@@ -1,8 +1,7 @@
-// Clusters, tables of clusters and actions on them.
-pub mod action;
+// Versions compared, clusters, and tables of clusters.
 pub mod cluster;
+pub mod columns;
 pub mod needs;
-pub mod place;
 pub mod table;
 pub mod version;
 pub mod within;

@@ -1,7 +1,7 @@
 // Packages: the text of an area and where its payload lies.
 use crate::show;
-use clusters::action::Action;
-use clusters::action::Change;
+use actions::action::Action;
+use actions::action::Change;
 use manifest::package::PackageAnswer;
 use manifest::package::read_package;
 use text::version::Version;

@@ -1,9 +1,9 @@
 // Actions on a table.
 use crate::show;
-use clusters::action::Action;
-use clusters::action::Change;
-use clusters::action::action_refusal;
-use clusters::action::apply;
+use actions::action::Action;
+use actions::action::Change;
+use actions::action::action_refusal;
+use actions::action::apply;
 use clusters::cluster::Cluster;
 use clusters::cluster::Need;
 use clusters::cluster::new_cluster;

@@ -9,8 +9,8 @@ use Rattle.text.specs.declared.version.Version.{Version}
 use Rattle.rows.specs.declared.columns.PackageColumns.{PackageColumns}
 use Rattle.clusters.specs.declared.cluster.Need.{Need}
 use Rattle.clusters.specs.declared.cluster.Cluster.{Cluster as ClusterStruct}
-use Rattle.clusters.specs.declared.action.Change.{Change}
-use Rattle.clusters.specs.Cluster.{Cluster, needsMost}
+use Rattle.actions.specs.declared.action.Change.{Change}
+use Rattle.clusters.specs.Cluster.{Cluster, cluster, needsMost}
 use Rattle.clusters.specs.Struct.{structCluster}
 use Rattle.clusters.specs.Exact.{newCluster, withNeed}
 use Rattle.clusters.proofs.Structs.{struct-new-cluster, struct-with-need}
@@ -49,11 +49,11 @@ unfolding newCluster
 new-room part version x e = rw e (omega arith)
 
 module _ (part : ℕ) (version : Version) (need : FirstNeed) (x : ClusterStruct) (new : x ≡ newCluster part version) where
-  pub no-first-need : need ≡ Empty → x ≡ structCluster (record { part = part; version = version; needs = firstNeeds need })
+  pub no-first-need : need ≡ Empty → x ≡ structCluster (cluster part version (firstNeeds need))
   no-first-need e = rw (new, e) (struct-new-cluster part version)
 
   pub first-need : (n : Need) (y : ClusterStruct) → y ≡ withNeed x n → need ≡ Filled n
-      → y ≡ structCluster (record { part = part; version = version; needs = firstNeeds need })
+      → y ≡ structCluster (cluster part version (firstNeeds need))
   first-need n y q e =
       rw (q, new, e, struct-new-cluster part version)
-      (struct-with-need (record { part = part; version = version; needs = [] }) n (omega arith))
+      (struct-with-need (cluster part version []) n (omega arith))

@@ -20,15 +20,17 @@ use Rattle.rows.specs.Line.{lineFrom, andThenLine}
 use Rattle.rows.specs.Columns.{andThenPackageColumns}
 use Rattle.clusters.specs.declared.cluster.Need.{Need}
 use Rattle.clusters.specs.declared.cluster.Cluster.{Cluster as ClusterStruct}
-use Rattle.clusters.specs.declared.action.Change.{Change}
-use Rattle.clusters.specs.declared.action.Change.the-variants.{Install, Update, Remove}
-use Rattle.clusters.specs.declared.action.Action.{Action as ActionStruct}
-use Rattle.clusters.specs.Cluster.{Cluster, needsMost}
-use Rattle.clusters.specs.View.{noVersion, actionOf}
-use Rattle.clusters.specs.Struct.{structCluster, structAction}
+use Rattle.actions.specs.declared.action.Change.{Change}
+use Rattle.actions.specs.declared.action.Change.the-variants.{Install, Update, Remove}
+use Rattle.actions.specs.declared.action.Action.{Action as ActionStruct}
+use Rattle.clusters.specs.Cluster.{Cluster, cluster, withNeed, needsMost}
+use Rattle.clusters.specs.View.{noVersion}
+use Rattle.actions.specs.View.{actionOf}
+use Rattle.clusters.specs.Struct.{structCluster}
+use Rattle.actions.specs.Struct.{structAction}
 use Rattle.clusters.specs.Exact as exact
 use Rattle.clusters.proofs.Structs.{struct-with-need}
-use Rattle.cluster_list.specs.Read.{andThenSome, withNeed}
+use Rattle.cluster_list.specs.Read.{andThenSome}
 use Rattle.manifest.specs.declared.heading.FirstNeed.{FirstNeed}
 use Rattle.manifest.specs.declared.heading.FirstNeed.the-variants.{Filled, Empty}
 use Rattle.manifest.specs.declared.heading.Heading.{Heading as HeadingStruct}
@@ -46,7 +48,7 @@ use Rattle.manifest.specs.Answer.{cleared, packageRead}
 -- ---- the structs that the code makes
 
 abbrev bare : ℕ → Cluster
-bare part = record { part = part; version = noVersion; needs = [] }
+bare part = cluster part noVersion []
 
 pub cleared-is : (answer : PackageAnswer) (x : ClusterStruct) → x ≡ structCluster (bare 0)
     → _≡_ {A = PackageReadStruct} (record { answer = answer; action = record { change = Install; cluster = x }; start = 0; count = 0; sum = 0 }) (cleared answer)

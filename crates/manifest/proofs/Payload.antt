@@ -17,7 +17,7 @@ use Rattle.rows.specs.declared.line.Line.the-variants.{Ends}
 use Rattle.rows.specs.Line.{lineFrom}
 use Rattle.rows.specs.Columns.{packageColumns}
 use Rattle.rows.proofs.ThenLaws.{then-cases-line, then-cases-package-columns}
-use Rattle.clusters.specs.View.{actionOf}
+use Rattle.actions.specs.View.{actionOf}
 use Rattle.cluster_list.proofs.Within.{then-cases-some}
 use Rattle.manifest.specs.declared.package.PackageAnswer.{PackageAnswer}
 use Rattle.manifest.specs.declared.package.PackageAnswer.the-variants as answer

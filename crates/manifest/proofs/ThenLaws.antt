@@ -12,7 +12,7 @@ use Rattle.text.specs.declared.version.VersionRead.{VersionRead}
 use Rattle.text.specs.Number.{wholeNumber}
 use Rattle.text.specs.Version.{wholeVersion}
 use Rattle.rows.specs.Field.{isEmpty}
-use Rattle.clusters.specs.declared.action.Change.{Change}
+use Rattle.actions.specs.declared.action.Change.{Change}
 use Rattle.cluster_list.specs.Cells.{partField}
 use Rattle.cluster_list.specs.Read.{andThenSome}
 use Rattle.cluster_list.proofs.ThenLaws.{no-byte, some-byte}

@@ -21,15 +21,14 @@ use Rattle.rows.specs.Line.{lineFrom}
 use Rattle.rows.specs.Columns.{packageColumns}
 use Rattle.rows.proofs.ThenLaws.{then-cases-line, then-cases-package-columns}
 use Rattle.clusters.specs.declared.cluster.Need.{Need}
-use Rattle.clusters.specs.declared.action.Change.{Change}
-use Rattle.clusters.specs.declared.action.Change.the-variants.{Install, Update, Remove}
-use Rattle.clusters.specs.Cluster.{Cluster, partWithin, needWithin, needsMost, clusterWithin}
-use Rattle.clusters.specs.Action.{actionWithin}
-use Rattle.clusters.specs.Struct.{structAction}
-use Rattle.clusters.proofs.Structs.{view-struct-action}
-use Rattle.clusters.specs.View.{viewAction, actionOf}
+use Rattle.actions.specs.declared.action.Change.{Change}
+use Rattle.actions.specs.declared.action.Change.the-variants.{Install, Update, Remove}
+use Rattle.clusters.specs.Cluster.{Cluster, cluster, withNeed, partWithin, needWithin, needsMost, clusterWithin}
+use Rattle.actions.specs.Action.{actionWithin}
+use Rattle.actions.specs.Struct.{structAction}
+use Rattle.actions.proofs.Structs.{view-struct-action}
+use Rattle.actions.specs.View.{viewAction, actionOf}
 use Rattle.cluster_list.specs.Cells.{partField, needFields}
-use Rattle.cluster_list.specs.Read.{withNeed}
 use Rattle.cluster_list.proofs.ThenLaws.{then-cases-need}
 use Rattle.cluster_list.proofs.CellsWithin.{part-read-within, need-read-within}
 use Rattle.cluster_list.proofs.Within.{then-cases-some, cluster-is-within, with-need-within, one-need-within, no-need-within}
@@ -76,13 +75,13 @@ module _ (columns : PackageColumns) (l : List ℕ) (part count sum : ℕ) (fine 
       let version-fine = whole-version-limits (cell (columns .«cluster_columns» .version) l) version next _ refl e in
       then-cases-need HeadingWithin none _ (needFields (columns .«cluster_columns») l) _ tt
       (λ f. record {
-        within = action-fine has _ (cluster-is-within (record { part = part; version = version; needs = [] }) fine version-fine (omega arith) no-need-within);
+        within = action-fine has _ (cluster-is-within (cluster part version []) fine version-fine (omega arith) no-need-within);
         room = rw (further-three has) (omega arith);
         count = few;
         sum = small;
       })
       λ n f. record {
-        within = action-fine has _ (cluster-is-within (record { part = part; version = version; needs = n ∷ [] }) fine version-fine (omega arith) (one-need-within n (need-read-within _ _ n f)));
+        within = action-fine has _ (cluster-is-within (cluster part version (n ∷ [])) fine version-fine (omega arith) (one-need-within n (need-read-within _ _ n f)));
         room = rw (further-three has) (omega arith);
         count = few;
         sum = small;

@@ -1,9 +1,10 @@
 -- The answer of the reader in the code.
 use Prim.Native.Nat.{ℕ}
 use Rattle.base.specs.Refusals.{firstRefusal, numberOrZero}
-use Rattle.clusters.specs.declared.action.Action.{Action as ActionStruct}
-use Rattle.clusters.specs.declared.action.Change.the-variants.{Install}
-use Rattle.clusters.specs.Struct.{structAction, clearedCluster}
+use Rattle.actions.specs.declared.action.Action.{Action as ActionStruct}
+use Rattle.actions.specs.declared.action.Change.the-variants.{Install}
+use Rattle.clusters.specs.Struct.{clearedCluster}
+use Rattle.actions.specs.Struct.{structAction}
 use Rattle.manifest.specs.declared.package.PackageAnswer.{PackageAnswer}
 use Rattle.manifest.specs.declared.package.PackageAnswer.the-variants.{Consistent, IllFormed, Inconsistent}
 use Rattle.manifest.specs.declared.package.PackageRead.{PackageRead as PackageReadStruct}

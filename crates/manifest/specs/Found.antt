@@ -2,7 +2,8 @@
 use mathlib.Core.List.{List, [], _∷_}
 use mathlib.Core.Option.{Option, none, some}
 use Rattle.clusters.specs.declared.cluster.Need.{Need}
-use Rattle.clusters.specs.declared.action.Change.{Change}
+use Rattle.clusters.specs.Cluster.{cluster}
+use Rattle.actions.specs.declared.action.Change.{Change}
 use Rattle.manifest.specs.declared.change.ChangeRead.{ChangeRead}
 use Rattle.manifest.specs.declared.change.ChangeRead.the-variants as change-read
 use Rattle.manifest.specs.declared.heading.FirstNeed.{FirstNeed}
@@ -27,7 +28,7 @@ firstNeeds Empty = []
 -- what the first value line says, without the code's grouping of its fields
 abbrev pub plainHeading : HeadingStruct → Heading
 plainHeading h =
-    heading (h .fields .change) (record { part = h .fields .part; version = h .version; needs = firstNeeds (h .need) }) (h .fields .count) (h .fields .sum)
+    heading (h .fields .change) (cluster (h .fields .part) (h .version) (firstNeeds (h .need))) (h .fields .count) (h .fields .sum)
 
 -- the first value line, or none where it is ill-formed
 abbrev pub headingFound : HeadingRead → Option Heading

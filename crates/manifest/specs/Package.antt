@@ -16,13 +16,14 @@ use Rattle.rows.specs.Field.{cell, isEmpty}
 use Rattle.rows.specs.Line.{lineFrom, andThenLine}
 use Rattle.rows.specs.Columns.{packageColumns, andThenPackageColumns}
 use Rattle.clusters.specs.declared.cluster.Need.{Need}
-use Rattle.clusters.specs.declared.action.Change.{Change}
-use Rattle.clusters.specs.declared.action.Change.the-variants.{Install, Update, Remove}
-use Rattle.clusters.specs.Cluster.{Cluster}
-use Rattle.clusters.specs.Action.{Action}
-use Rattle.clusters.specs.View.{noVersion, actionOf}
+use Rattle.actions.specs.declared.action.Change.{Change}
+use Rattle.actions.specs.declared.action.Change.the-variants.{Install, Update, Remove}
+use Rattle.clusters.specs.Cluster.{Cluster, cluster, withNeed}
+use Rattle.actions.specs.Action.{Action}
+use Rattle.clusters.specs.View.{noVersion}
+use Rattle.actions.specs.View.{actionOf}
 use Rattle.cluster_list.specs.Cells.{partField, needFields, andThenNeed}
-use Rattle.cluster_list.specs.Read.{andThenSome, withNeed}
+use Rattle.cluster_list.specs.Read.{andThenSome}
 
 -- what the text of a package says: the action, the payload's start within the area, count and sum
 pub record Manifest : Type 0 where
@@ -61,7 +62,7 @@ onlyPart columns l = isEmpty (cell (columns .version) l) && (isEmpty (cell (colu
 unfoldable pub removeHeading : PackageColumns → List ℕ → ℕ → ℕ → ℕ → Option Heading
 removeHeading columns l part count sum =
     cond (onlyPart (columns .«cluster_columns») l && eqb count 0)
-    (some (heading Remove (record { part = part; version = noVersion; needs = [] }) count sum))
+    (some (heading Remove (cluster part noVersion []) count sum))
     none
 
 -- install and update have a version; "On the first these two are both filled or both empty."
@@ -69,9 +70,9 @@ unfoldable pub clusterHeading : Change → PackageColumns → List ℕ → ℕ �
 clusterHeading change columns l part count sum =
     andThenVersion none (wholeVersion (cell (columns .«cluster_columns» .version) l)) λ version behind-version.
     andThenNeed none
-    (some (heading change (record { part = part; version = version; needs = [] }) count sum))
+    (some (heading change (cluster part version []) count sum))
     (needFields (columns .«cluster_columns») l) λ n.
-    some (heading change (record { part = part; version = version; needs = n ∷ [] }) count sum)
+    some (heading change (cluster part version (n ∷ [])) count sum)
 
 -- what the action makes of the first value line
 abbrev pub headingOf : Change → PackageColumns → List ℕ → ℕ → ℕ → ℕ → Option Heading

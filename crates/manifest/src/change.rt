@@ -2,7 +2,7 @@
 ghost use mathlib.Core.Path.{_≡_};
 ghost use Rattle.manifest.specs.Package.{changeOf, furtherMost};
 ghost use Rattle.manifest.specs.Found.{changeFound};
-use clusters::action::Change;
+use actions::action::Change;
 use text::word::is_word;
 
 // What reading an action word finds.

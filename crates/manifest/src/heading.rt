@@ -1,16 +1,16 @@
 // The first value line of a package.
 ghost use mathlib.Core.Path.{_≡_};
 ghost use lib.ListN.{drop};
-ghost use Rattle.clusters.specs.declared.action.Change.the-variants.{Remove};
+ghost use Rattle.actions.specs.declared.action.Change.the-variants.{Remove};
 ghost use Rattle.manifest.specs.Package.{onlyPart, removeHeading, clusterHeading, headingOf, payloadHeading, firstLine};
 ghost use Rattle.manifest.specs.Found.{headingFound};
 use crate::change::ChangeRead;
 use crate::change::change_of;
 use crate::lines::cell_is_empty;
+use actions::action::Change;
 use cluster_list::cells::NeedRead;
 use cluster_list::cells::need_fields;
 use cluster_list::cells::part_field;
-use clusters::action::Change;
 use clusters::cluster::Need;
 use rows::columns::ClusterColumns;
 use rows::columns::PackageColumns;

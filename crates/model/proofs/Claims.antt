@@ -10,7 +10,7 @@ use Prim.Native.Nat.{ℕ, _+_, _-_, _≤_}
 use lib.ListN.{length, drop, replicate}
 use Rattle.base.specs.Refusals.{firstRefusal}
 use Rattle.clusters.specs.Table.{Table}
-use Rattle.clusters.specs.Action.{applyAll}
+use Rattle.actions.specs.Action.{applyAll}
 use Rattle.cluster_list.specs.Read.{readList}
 use Rattle.manifest.specs.Package.{Manifest, consistent, readPackage}
 use Rattle.model.specs.State.{Package, isIdle, isProcessing, State, Store, actions}

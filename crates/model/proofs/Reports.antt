@@ -19,7 +19,7 @@ use Rattle.text.specs.Digits.{digits}
 use Rattle.text.proofs.DigitLaws.{ten-digits}
 use Rattle.rows.specs.Line.{lineText}
 use Rattle.clusters.specs.Cluster.{partWithin, clusterWithin}
-use Rattle.clusters.specs.Action.{Action, install, update, remove, actionPart, actionWithin, actionsWithin}
+use Rattle.actions.specs.Action.{Action, install, update, remove, actionPart, actionWithin, actionsWithin}
 use Rattle.cluster_list.proofs.Lengths.{list-most}
 use Rattle.manifest.specs.Package.{Manifest, consistent}
 use Rattle.manifest.proofs.Within.{readPackage-within}

@@ -8,7 +8,7 @@ use mathlib.Core.Option.{some}
 use lib.Dec.{eqb}
 use lib.ListN.{length, drop, replicate}
 use Rattle.clusters.specs.Table.{Table}
-use Rattle.clusters.specs.Action.{applyAll}
+use Rattle.actions.specs.Action.{applyAll}
 use Rattle.model.specs.State.{Package, Phase, phaseNumber, isIdle, State, Store, actions}
 use Rattle.model.specs.Calls.{Call, transferStart, transferData, transferExit, deleteTransfer, process, work, cancel, revert, activate, rollback, finish, report, refused}
 use Rattle.model.specs.Areas.{declared, free, find, areaOf}

@@ -4,7 +4,7 @@ use mathlib.Core.Bool.{Bool, true, false, cond, not}
 use mathlib.Core.List.{List, [], _∷_, _++_}
 use lib.Dec.{eqb}
 use Rattle.clusters.specs.Table.{Table}
-use Rattle.clusters.specs.Action.{Action, applyAll}
+use Rattle.actions.specs.Action.{Action, applyAll}
 use Rattle.manifest.specs.Package.{readPackage}
 use Rattle.model.specs.Calls.{Call, transferStart, transferData, transferExit, deleteTransfer, process, work, cancel, revert, activate, rollback, finish, report, Answer, givenId, done, working, processed, cancelled, inconsistent, preActivationFailed, missingDependencies, verificationFailed, notAbleToRollback, notAbleToRevert, cleaningFailed, refused, accepted}
 use Rattle.model.specs.Step.{manifestOf}

@@ -11,8 +11,9 @@ use Rattle.rows.specs.Line.{lineFrom, lineText}
 use Rattle.rows.specs.Columns.{columnFrom, clusterColumns, packageColumns}
 use Rattle.clusters.specs.Version.{above, atOrAbove}
 use Rattle.clusters.specs.Cluster.{partWithin, needWithin, needsWithin, clusterWithin}
-use Rattle.clusters.specs.Table.{find as findCluster, present, insert, replace, takeOut, meets, meetsAll, needsMetOf, needsMet, risingAbove, tableWithin}
-use Rattle.clusters.specs.Action.{apply, applyAll, touched, clusterPresent, clusterAbsent, oldVersion, tableFull, actionRefusals, passes, passInTurn, actionWithin, actionsWithin}
+use Rattle.clusters.specs.Table.{find as findCluster, present, meets, meetsAll, needsMetOf, needsMet, risingAbove, tableWithin}
+use Rattle.actions.specs.Action.{insert, replace, takeOut, apply, applyAll, actionWithin, actionsWithin}
+use Rattle.actions.specs.Refusals.{touched, clusterPresent, clusterAbsent, oldVersion, tableFull, actionRefusals, passes, passInTurn}
 use Rattle.cluster_list.specs.Cells.{partField, needOf}
 use Rattle.cluster_list.specs.Read.{lastPart, clusterAdded, needAdded, needLine, clusterBegun, clusterLine, valueLine, valueLines, readList}
 use Rattle.cluster_list.specs.Write.{needLineText, needLinesText, clusterLines, clustersText, writeList}

@@ -9,7 +9,7 @@ use Rattle.base.specs.Quoted.{bytes}
 use Rattle.base.specs.Refusals.{Refusal, refuse_when_, firstRefusal, numberOrZero}
 use Rattle.text.specs.Digits.{digits}
 use Rattle.rows.specs.Line.{lineText}
-use Rattle.clusters.specs.Action.{Action, install, update, remove, actionPart}
+use Rattle.actions.specs.Action.{Action, install, update, remove, actionPart}
 use Rattle.cluster_list.specs.Write.{writeList}
 use Rattle.manifest.specs.Refused.{packageRefusals}
 use Rattle.model.specs.State.{packageStateNumber, Package, Entry, Work, State, Store, actions}

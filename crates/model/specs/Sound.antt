@@ -8,7 +8,8 @@ use lib.ListN.{length}
 use Rattle.base.specs.Refusals.{Refusal, refuse_when_}
 use Rattle.checksum.specs.Sum.{sumsWithin}
 use Rattle.clusters.specs.Table.{Table, tableWithin}
-use Rattle.clusters.specs.Action.{passes, passInTurn, actionWithin, actionsWithin}
+use Rattle.actions.specs.Refusals.{passes, passInTurn}
+use Rattle.actions.specs.Action.{actionWithin, actionsWithin}
 use Rattle.model.specs.State.{Package, Phase, isIdle, isProcessing, Transfers, Entry, Session, Work, State, Store, actions}
 use Rattle.model.specs.Areas.{declared, packageOf, isTransferring, isBeingProcessed, isProcessed, countIn, processingId}
 use Rattle.model.specs.Tables.{staged}

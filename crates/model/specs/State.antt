@@ -7,7 +7,7 @@ use mathlib.Core.Option.{Option, none, some}
 use lib.Dec.{eqb}
 use Rattle.checksum.specs.declared.Sums.{Sums}
 use Rattle.clusters.specs.Table.{Table}
-use Rattle.clusters.specs.Action.{Action}
+use Rattle.actions.specs.Action.{Action}
 
 -- "Package states: Transferring 0, Transferred 1, Processing 2, Processed 3."
 pub data PackageState : Type 0 where

@@ -9,7 +9,8 @@ use Rattle.base.specs.Refusals.{Refusal, refuse_when_, firstRefusal}
 use Rattle.checksum.specs.declared.Sums.{Sums}
 use Rattle.checksum.specs.Sum.{startSums, continued, sumNumber}
 use Rattle.clusters.specs.Table.{Table, needsMet}
-use Rattle.clusters.specs.Action.{Action, remove, actionRefusals}
+use Rattle.actions.specs.Action.{Action, remove}
+use Rattle.actions.specs.Refusals.{actionRefusals}
 use Rattle.manifest.specs.Package.{Manifest, PackageRead, illFormed, inconsistent, consistent, readPackage}
 use Rattle.manifest.specs.Refused.{packageRefusals}
 use Rattle.model.specs.State.{PackageState, transferred, beingProcessed, Package, RollbackOrigin, verifyingRollsBack, activatedRollsBack, CleanUpOrigin, readyCleansUp, activatedCleansUp, rolledBackCleansUp, Phase, idle, ready, processing, activating, verifying, activated, rollingBack, rolledBack, cleaningUp, phaseNumber, isProcessing, Transfers, Entry, Session, Work, State, state, Store, actions}

@@ -1,6 +1,6 @@
 -- The staged and the running table.
 use Rattle.clusters.specs.Table.{Table}
-use Rattle.clusters.specs.Action.{applyAll}
+use Rattle.actions.specs.Action.{applyAll}
 use Rattle.model.specs.State.{Phase, idle, ready, processing, activating, verifying, activated, rollingBack, rolledBack, cleaningUp, CleanUpOrigin, readyCleansUp, activatedCleansUp, rolledBackCleansUp, Session, State, actions}
 
 -- "The staged table is the session's beginning table with the listed actions applied"

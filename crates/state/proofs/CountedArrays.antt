@@ -8,7 +8,8 @@ use lib.ListN.{length, take}
 use Rattle.base.specs.Counted.{counted}
 use Rattle.base.proofs.Counted.{counted-few}
 use Rattle.clusters.specs.Exact.{putAt}
-use Rattle.clusters.proofs.Arrays.{first-put, take-put, map-put}
+use Rattle.clusters.proofs.Arrays.{first-put}
+use Rattle.actions.proofs.Arrays.{take-put, map-put}
 
 module _ {A B : Type 0} (f : A → B) (most : ℕ) (d : A) where
   -- a store behind the last, and the count raised: one element more at the end

@@ -7,11 +7,12 @@ use lib.Dec.{eqb}
 use Rattle.base.specs.Counted.{counted}
 use Rattle.checksum.specs.Sum.{startSums}
 use Rattle.text.specs.declared.version.Version.{Version}
-use Rattle.clusters.specs.declared.action.Change.{Change}
-use Rattle.clusters.specs.declared.action.Change.the-variants.{Install, Update, Remove}
-use Rattle.clusters.specs.declared.action.Action.{Action as ActionStruct}
+use Rattle.actions.specs.declared.action.Change.{Change}
+use Rattle.actions.specs.declared.action.Change.the-variants.{Install, Update, Remove}
+use Rattle.actions.specs.declared.action.Action.{Action as ActionStruct}
 use Rattle.clusters.specs.Struct.{clearedCluster}
-use Rattle.clusters.specs.View.{viewTable, viewAction}
+use Rattle.clusters.specs.View.{viewTable}
+use Rattle.actions.specs.View.{viewAction}
 use Rattle.model.specs.State as model
 use Rattle.model.specs.Sound.{packagesMost}
 use Rattle.state.specs.declared.package.PackageState.{PackageState}

@@ -11,7 +11,7 @@ use Rattle.text.specs.Number.{cursor}
 use Rattle.text.specs.Version.{wholeVersion}
 use Rattle.clusters.specs.Version.{above}
 use Rattle.clusters.specs.Table.{meets}
-use Rattle.clusters.specs.Action.{install}
+use Rattle.actions.specs.Action.{install}
 use Rattle.manifest.specs.Package.{consistent, readPackage}
 use Rattle.model.specs.State.{verifying}
 use Rattle.model.specs.Calls.{transferStart, process, finish, givenId}

@@ -9,7 +9,7 @@ use mathlib.Core.Option.{none}
 use lib.ListN.{replicate}
 use Rattle.base.specs.Quoted.{bytes}
 use Rattle.clusters.specs.Table.{Table}
-use Rattle.clusters.specs.Action.{install}
+use Rattle.actions.specs.Action.{install}
 use Rattle.model.specs.State as states
 use Rattle.model.specs.State.{idle, ready, verifying, activated, rollingBack, verifyingRollsBack, cleaningUp, activatedCleansUp, Entry, State, state}
 use Rattle.model.specs.Calls.{transferStart, transferData, deleteTransfer, process, work, cancel, revert, activate, rollback, finish, report, givenId, done, working, processed, cancelled, inconsistent, preActivationFailed, missingDependencies, verificationFailed, notAbleToRollback, notAbleToRevert, cleaningFailed}

@@ -9,7 +9,7 @@ use mathlib.Core.List.{List, [], _∷_, _++_}
 use lib.ListN.{replicate}
 use Rattle.clusters.specs.Cluster.{Cluster}
 use Rattle.clusters.specs.Table.{Table}
-use Rattle.clusters.specs.Action.{Action, update}
+use Rattle.actions.specs.Action.{Action, update}
 use Rattle.model.specs.Calls.{process, work, activate, rollback, finish, report, done, working, processed}
 use Rattle.model.specs.Tables.{running}
 use Rattle.model.specs.Step.{Outcome, outcome}

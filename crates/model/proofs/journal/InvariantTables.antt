@@ -4,7 +4,7 @@ use mathlib.Core.Bool.{true, false, cond}
 use mathlib.Core.List.{List, [], _∷_, _++_}
 use Prim.Native.Nat.{ℕ}
 use Rattle.clusters.specs.Table.{Table, needsMet}
-use Rattle.clusters.specs.Action.{Action, applyAll}
+use Rattle.actions.specs.Action.{Action, applyAll}
 use Rattle.manifest.specs.Package.{PackageRead}
 use Rattle.model.specs.State.{Package, verifyingRollsBack, activatedRollsBack, CleanUpOrigin, Phase, idle, ready, processing, cleaningUp, isIdle, Entry, Session, Work, State, Store, actions}
 use Rattle.model.specs.Calls.{Call, process, work, report, Answer, processed, done}

@@ -8,7 +8,7 @@ use lib.Dec.{eqb}
 use borrow.Author.Tests.{eq-eqb}
 use Rattle.base.specs.Refusals.{Refusal, firstRefusal}
 use Rattle.base.proofs.Tests.{or-first, or-second, clash, none-some}
-use Rattle.clusters.specs.Action.{actionRefusals}
+use Rattle.actions.specs.Refusals.{actionRefusals}
 use Rattle.model.specs.State.{State, Store}
 use Rattle.model.specs.Calls.{Call, transferStart, transferData, transferExit, deleteTransfer, process, work, cancel, revert, activate, rollback, finish, report, refused}
 use Rattle.model.specs.Sound.{sound}

@@ -8,8 +8,9 @@ use Prim.Native.Nat.{ℕ}
 use native.Mathlib.Omega.{arith}
 use Rattle.base.proofs.Tests.{clash}
 use Rattle.clusters.specs.Table.{Table}
-use Rattle.clusters.specs.Action.{applyAll, passInTurn}
-use Rattle.clusters.proofs.Changes.{passed-changes}
+use Rattle.actions.specs.Action.{applyAll}
+use Rattle.actions.specs.Refusals.{passInTurn}
+use Rattle.actions.proofs.Changes.{passed-changes}
 use Rattle.model.specs.State.{readyCleansUp, activatedCleansUp, rolledBackCleansUp, Phase, idle, ready, processing, activating, verifying, activated, rollingBack, rolledBack, cleaningUp, CleanUpOrigin, isIdle, Entry, Session, State, state, Store, actions}
 use Rattle.model.specs.Calls.{Call, work, report}
 use Rattle.model.specs.Tables.{staged, runningIn, running}

@@ -12,7 +12,7 @@ use Rattle.base.specs.Refusals.{firstRefusal}
 use Rattle.base.proofs.Tests.{or-left-false, or-right-false, cond-cases}
 use Rattle.base.proofs.Refusals.{none-accepted}
 use Rattle.checksum.specs.Sum.{sumNumber}
-use Rattle.clusters.specs.Action.{passes}
+use Rattle.actions.specs.Refusals.{passes}
 use Rattle.manifest.proofs.Within.{readPackage-within}
 use Rattle.model.specs.State.{transferred, Package, cleaningUp, readyCleansUp, activating, rollingBack, isProcessing, Work, State, state, Store}
 use Rattle.model.specs.Calls.{Call, done, transferStart, transferData, transferExit, deleteTransfer, process, work, cancel, revert, activate, rollback, finish, report}

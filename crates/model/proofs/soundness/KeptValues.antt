@@ -7,7 +7,8 @@ use Prim.Native.Nat.{ℕ, _+_, _≤_}
 use native.Mathlib.Omega.{arith}
 use Rattle.base.proofs.Tests.{and-left, and-right, and-both, clash}
 use Rattle.checksum.proofs.Laws.{start-within, continued-within}
-use Rattle.clusters.specs.Action.{passes, actionWithin}
+use Rattle.actions.specs.Refusals.{passes}
+use Rattle.actions.specs.Action.{actionWithin}
 use Rattle.manifest.specs.Package.{Manifest}
 use Rattle.model.specs.State.{Package, Phase, isProcessing, Session, Work, actions}
 use Rattle.model.specs.Areas.{packageOf, processingId}

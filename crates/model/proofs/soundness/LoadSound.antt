@@ -13,7 +13,8 @@ use borrow.Author.Tests.{leb-true, ltb-false, not-false, le-leb, le-ltb}
 use Rattle.base.specs.Refusals.{firstRefusal}
 use Rattle.base.proofs.Tests.{and-left, and-right, or-left-false, or-right-false}
 use Rattle.clusters.specs.Table.{Table, tableWithin}
-use Rattle.clusters.specs.Action.{passInTurn, actionsWithin}
+use Rattle.actions.specs.Refusals.{passInTurn}
+use Rattle.actions.specs.Action.{actionsWithin}
 use Rattle.cluster_list.specs.Read.{readList}
 use Rattle.cluster_list.proofs.Within.{readList-within}
 use Rattle.model.specs.State.{State, Store, idle}

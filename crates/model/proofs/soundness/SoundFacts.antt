@@ -10,7 +10,8 @@ use borrow.Author.Tests.{ltb-true, leb-true, eqb-true, lt-ltb, le-leb, eq-eqb}
 use Rattle.base.proofs.Tests.{and-left, and-right, and-both}
 use Rattle.checksum.specs.Sum.{sumsWithin}
 use Rattle.clusters.specs.Table.{tableWithin}
-use Rattle.clusters.specs.Action.{passes, passInTurn, actionWithin, actionsWithin}
+use Rattle.actions.specs.Refusals.{passes, passInTurn}
+use Rattle.actions.specs.Action.{actionWithin, actionsWithin}
 use Rattle.model.specs.State.{Package, isProcessing, Session, Work, State, Store, actions}
 use Rattle.model.specs.Areas.{declared, packageOf, isBeingProcessed, isProcessed, countIn, processingId}
 use Rattle.model.specs.Tables.{staged}

@@ -9,8 +9,9 @@ use lib.Dec.{eqb}
 use lib.ListN.{length, length-append}
 use borrow.Author.Tests.{eqb-false, eq-eqb, ne-eqb}
 use Rattle.base.proofs.Tests.{and-both, or-second}
-use Rattle.clusters.specs.Action.{Action, passes, passInTurn, actionWithin, actionsWithin}
-use Rattle.clusters.proofs.InTurn.{pass-in-turn-last, actions-within-last}
+use Rattle.actions.specs.Action.{Action, actionWithin, actionsWithin}
+use Rattle.actions.specs.Refusals.{passes, passInTurn}
+use Rattle.actions.proofs.InTurn.{pass-in-turn-last, actions-within-last}
 use Rattle.manifest.specs.Package.{Manifest}
 use Rattle.model.specs.State.{PackageState, transferred, beingProcessed, processed, Package, processing, isProcessing, Entry, Work, State, state, Store, actions}
 use Rattle.model.specs.Areas.{find, inState, changed, isTransferring, isBeingProcessed, isProcessed, countIn, processingId}

@@ -9,8 +9,9 @@ use lib.ListN.{getD}
 use borrow.Author.Tests.{not-true}
 use Rattle.base.proofs.Tests.{and-left, and-right, clash}
 use Rattle.clusters.specs.Table.{Table, tableWithin, needsMet}
-use Rattle.clusters.specs.Action.{passInTurn, actionsWithin}
-use Rattle.clusters.proofs.Limits.{apply-all-within}
+use Rattle.actions.specs.Refusals.{passInTurn}
+use Rattle.actions.specs.Action.{actionsWithin}
+use Rattle.actions.proofs.Limits.{apply-all-within}
 use Rattle.model.specs.State.{Package, PackageState, RollbackOrigin, verifyingRollsBack, activatedRollsBack, readyCleansUp, activatedCleansUp, rolledBackCleansUp, Phase, idle, ready, processing, activating, verifying, activated, rollingBack, rolledBack, cleaningUp, phaseNumber, isIdle, isProcessing, Entry, State, state, Store, actions}
 use Rattle.model.specs.Calls.{Call, callNumber}
 use Rattle.model.specs.Permissions.{permissions, allowed}

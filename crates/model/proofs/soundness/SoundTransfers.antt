@@ -7,7 +7,8 @@ use Prim.Native.Nat.{ℕ, _+_, _≤_, _<_}
 use native.Mathlib.Omega.{arith}
 use lib.ListN.{length, length-append}
 use Rattle.clusters.specs.Table.{tableWithin}
-use Rattle.clusters.specs.Action.{passInTurn, actionsWithin}
+use Rattle.actions.specs.Refusals.{passInTurn}
+use Rattle.actions.specs.Action.{actionsWithin}
 use Rattle.model.specs.State.{Package, Phase, isProcessing, Session, Work, State, state, Store, actions}
 use Rattle.model.specs.Areas.{declared, free, find, remaining, newPackage, changed, isBeingProcessed, isProcessed, countIn}
 use Rattle.model.specs.Sound.{packagesMost, idMost, packagesRise, processedAsListed, keptSound, listFits}

@@ -10,7 +10,7 @@ use borrow.Author.Tests.{ltb-false, leb-false, eqb-true, not-false}
 use Rattle.base.specs.Refusals.{firstRefusal}
 use Rattle.base.proofs.Refusals.{none-accepted}
 use Rattle.base.proofs.Tests.{or-left-false, or-right-false}
-use Rattle.clusters.specs.Action.{passes}
+use Rattle.actions.specs.Refusals.{passes}
 use Rattle.model.specs.State.{State, state, Store}
 use Rattle.model.specs.Calls.{transferStart, transferData, transferExit, deleteTransfer, process}
 use Rattle.model.specs.Areas.{packageOf, isBeingProcessed}

@@ -9,7 +9,7 @@ use lib.Dec.{eqb}
 use lib.ListN.{length}
 use Rattle.checksum.specs.Sum.{sumNumber}
 use Rattle.clusters.specs.Table.{Table, needsMet}
-use Rattle.clusters.specs.Action.{passes}
+use Rattle.actions.specs.Refusals.{passes}
 use Rattle.manifest.specs.Package.{Manifest, inconsistent, consistent}
 use Rattle.model.specs.State.{transferred, beingProcessed, Package, RollbackOrigin, verifyingRollsBack, activatedRollsBack, CleanUpOrigin, readyCleansUp, activatedCleansUp, rolledBackCleansUp, Phase, idle, ready, processing, activating, verifying, activated, rollingBack, rolledBack, cleaningUp, isIdle, isProcessing, Transfers, Session, Work, State, state, Store, actions}
 use Rattle.model.specs.State as states

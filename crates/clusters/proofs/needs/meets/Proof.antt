@@ -6,7 +6,7 @@ use mathlib.Core.Option.{none}
 use Rattle.clusters.specs.Table.{find}
 use Rattle.clusters.specs.View.{viewTable}
 use Rattle.clusters.proofs.Placing.{FoundIn, found-in, nothing-found}
-use Rattle.clusters.proofs.Answers.{meets-none, meets-some}
+use Rattle.clusters.proofs.Finding.{meets-none, meets-some}
 use Rattle.clusters.proofs.needs.meets.Statement.{statement}
 use Rattle.clusters.proofs.needs.meets.Tie as tie
 

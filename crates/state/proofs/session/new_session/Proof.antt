@@ -2,7 +2,7 @@
 use borrow.Author.Needs.{needs}
 use lib.ListN.{replicate}
 use mathlib.Core.Path.{ap}
-use Rattle.clusters.specs.declared.action.Action.{Action}
+use Rattle.actions.specs.declared.action.Action.{Action}
 use Rattle.state.specs.declared.session.Session.{Session}
 use Rattle.state.specs.View.{entriesMost}
 use Rattle.state.proofs.session.new_session.Statement.{statement}

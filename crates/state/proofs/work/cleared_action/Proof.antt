@@ -2,8 +2,8 @@
 use borrow.Author.Needs.{needs}
 use mathlib.Core.Path.{ap}
 use Rattle.clusters.specs.declared.cluster.Cluster.{Cluster}
-use Rattle.clusters.specs.declared.action.Action.{Action}
-use Rattle.clusters.specs.declared.action.Change.the-variants.{Install}
+use Rattle.actions.specs.declared.action.Action.{Action}
+use Rattle.actions.specs.declared.action.Change.the-variants.{Install}
 use Rattle.clusters.specs.Exact.{newCluster}
 use Rattle.state.proofs.work.cleared_action.Statement.{statement}
 use Rattle.state.proofs.work.cleared_action.Tie as tie

@@ -3,7 +3,7 @@ use borrow.Author.Needs.{needs}
 use mathlib.Core.Path.{ap₂}
 use mathlib.Core.Bool.{false}
 use Rattle.checksum.specs.declared.Sums.{Sums}
-use Rattle.clusters.specs.declared.action.Action.{Action}
+use Rattle.actions.specs.declared.action.Action.{Action}
 use Rattle.state.specs.declared.work.Work.{Work}
 use Rattle.state.proofs.work.cleared_work.Statement.{statement}
 use Rattle.state.proofs.work.cleared_work.Tie as tie

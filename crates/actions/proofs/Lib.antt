@@ -1,0 +1,9 @@
+pub mod Arrays
+pub mod Finding
+pub mod Changes
+pub mod Limits
+pub mod InTurn
+pub mod Placing
+pub mod Answers
+pub mod Views
+pub mod Structs

@@ -1,0 +1,54 @@
+-- What a package does to a table.
+use Prim.Native.Nat.{ℕ}
+use mathlib.Core.Bool.{Bool, true, cond, _&&_}
+use mathlib.Core.List.{List, [], _∷_}
+use lib.Dec.{eqb, ltb}
+use Rattle.clusters.specs.Cluster.{Cluster, partWithin, clusterWithin}
+use Rattle.clusters.specs.Table.{Table}
+
+-- "Action is `install`, `update` or `remove`": of a cluster, to a cluster, of a part number
+pub data Action : Type 0 where
+  install update : Cluster → Action
+  remove : ℕ → Action
+
+-- the part number of the cluster that an action is about
+abbrev pub actionPart : Action → ℕ
+actionPart (install c) = c .part
+actionPart (update c) = c .part
+actionPart (remove part) = part
+
+-- "install adds the cluster": before the first with a larger part number, so that the table stays in rising part number
+unfoldable pub insert : Cluster → Table → Table
+insert c [] = c ∷ []
+insert c (d ∷ t) = cond (ltb (c .part) (d .part)) (c ∷ d ∷ t) (d ∷ insert c t)
+
+-- "update replaces both": version and needs, so the cluster in the place of the one with its part number
+unfoldable pub replace : Cluster → Table → Table
+replace c [] = []
+replace c (d ∷ t) = cond (eqb (c .part) (d .part)) (c ∷ replace c t) (d ∷ replace c t)
+
+-- "remove takes the cluster out"
+unfoldable pub takeOut : ℕ → Table → Table
+takeOut part [] = []
+takeOut part (d ∷ t) = cond (eqb part (d .part)) (takeOut part t) (d ∷ takeOut part t)
+
+-- "install adds the cluster with the package's version and needs, update replaces both, remove takes the cluster out"
+unfoldable pub apply : Action → Table → Table
+apply (install c) t = insert c t
+apply (update c) t = replace c t
+apply (remove part) t = takeOut part t
+
+-- "with the listed actions applied": in order
+unfoldable pub applyAll : Table → List Action → Table
+applyAll t [] = t
+applyAll t (a ∷ rest) = applyAll (apply a t) rest
+
+-- an action is within the limits of a cluster
+unfoldable pub actionWithin : Action → Bool
+actionWithin (install c) = clusterWithin c
+actionWithin (update c) = clusterWithin c
+actionWithin (remove part) = partWithin part
+
+unfoldable pub actionsWithin : List Action → Bool
+actionsWithin [] = true
+actionsWithin (a ∷ rest) = actionWithin a && actionsWithin rest

@@ -1,0 +1,6 @@
+pub mod Action
+pub mod Refusals
+pub mod View
+pub mod Struct
+pub mod Place
+pub mod Exact

@@ -1,0 +1,3 @@
+// Actions on a table of clusters.
+pub mod action;
+pub mod place;

@@ -1,0 +1,105 @@
+// Clusters put into a table, replaced and taken out. What is required of a table is met by the check of its limits.
+use clusters::cluster::Cluster;
+use clusters::table::Found;
+use clusters::table::Table;
+use clusters::table::find;
+ghost use mathlib.Core.Path.{_≡_};
+ghost use Prim.Native.Nat.{_≤_, _<_};
+ghost use Rattle.clusters.specs.Table.{clustersMost};
+ghost use Rattle.clusters.specs.View.{viewTable};
+ghost use Rattle.actions.specs.Place.{insertPlaceFrom};
+ghost use Rattle.actions.specs.Exact.{insertAt, insert, replace, closeGap, takeOut};
+
+// The place of the first cluster with a larger part number, or the place behind the last.
+fn insert_place(t: Table, part: u32) -> usize
+    requires { ⌜ t .count ≤ clustersMost ⌝ }
+    ensures { λ r. ⌜ (r ≤ t .count) × (r ≡ insertPlaceFrom 0 part (viewTable t)) ⌝ }
+{
+    let count = t.count;
+    let mut i = 0;
+    while i < count {
+        let c = t.clusters[i];
+        if part < c.part {
+            return i;
+        }
+        i += 1;
+    }
+    i
+}
+
+// A cluster at a place, with what stood from there on moved up by one. insert_place gives such a place.
+fn insert_at(t: Table, place: usize, c: Cluster) -> Table
+    requires { ⌜ (t .count < clustersMost) × (place ≤ t .count) ⌝ }
+    ensures { λ r. ⌜ r ≡ insertAt place c t ⌝ }
+{
+    let count = t.count;
+    let mut clusters = t.clusters;
+    let mut carried = c;
+    let mut i = place;
+    while i < count {
+        let next = clusters[i];
+        clusters[i] = carried;
+        carried = next;
+        i += 1;
+    }
+    clusters[count] = carried;
+    Table {
+        clusters: clusters,
+        count: count + 1,
+    }
+}
+
+// A cluster before the first with a larger part number. Callers see before that the table is not full.
+pub fn insert(t: Table, c: Cluster) -> Table
+    requires { ⌜ t .count < clustersMost ⌝ }
+    ensures { λ r. ⌜ r ≡ insert c t ⌝ }
+{
+    let place = insert_place(t, c.part);
+    insert_at(t, place, c)
+}
+
+// A cluster in the place of the one with its part number.
+pub fn replace(t: Table, c: Cluster) -> Table
+    requires { ⌜ t .count ≤ clustersMost ⌝ }
+    ensures { λ r. ⌜ r ≡ replace c t ⌝ }
+{
+    let Found::At(place) = find(t, c.part) else {
+        return t;
+    };
+    let mut clusters = t.clusters;
+    clusters[place] = c;
+    Table {
+        clusters: clusters,
+        count: t.count,
+    }
+}
+
+// The table without the cluster at a place: what stands behind it moved down by one. find gives such a place.
+fn close_gap(t: Table, place: usize) -> Table
+    requires { ⌜ (t .count ≤ clustersMost) × (place < t .count) ⌝ }
+    ensures { λ r. ⌜ r ≡ closeGap place t ⌝ }
+{
+    let count = t.count;
+    let mut clusters = t.clusters;
+    let mut i = place;
+    while i + 1 < count {
+        let next = clusters[i + 1];
+        clusters[i] = next;
+        i += 1;
+    }
+    Table {
+        clusters: clusters,
+        count: count - 1,
+    }
+}
+
+// The table without the cluster with a part number.
+pub fn take_out(t: Table, part: u32) -> Table
+    requires { ⌜ t .count ≤ clustersMost ⌝ }
+    ensures { λ r. ⌜ r ≡ takeOut part t ⌝ }
+{
+    let Found::At(place) = find(t, part) else {
+        return t;
+    };
+    close_gap(t, place)
+}

@@ -1,7 +1,7 @@
 // What the state keeps of the package that is processing: all of it is cleared outside Processing.
-use checksum::Sums;
 use actions::action::Action;
 use actions::action::Change;
+use checksum::Sums;
 use clusters::cluster::new_cluster;
 use text::version::Version;
 ghost use mathlib.Core.Path.{_≡_};

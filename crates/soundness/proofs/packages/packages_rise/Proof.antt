@@ -18,9 +18,6 @@ use Rattle.soundness.proofs.Along.{packages-step, packages-end}
 use Rattle.soundness.proofs.OnePackage.{riseAndFit, all-packages, no-package, stops, goes-on}
 use Rattle.soundness.proofs.packages.packages_rise.Statement.{statement}
 use Rattle.soundness.proofs.packages.packages_rise.Tie as tie
-use Rattle.soundness.proofs.packages.packages_rise.Reads as reads
-use Rattle.soundness.proofs.packages.packages_rise.Lts as lts
-use Rattle.soundness.proofs.packages.package_sound.Reads as package-sound-reads
 
 abbrev Inv-loop : tie.InvT-loop
 Inv-loop room t count next declared₀ last₀ i₀ declared last i =

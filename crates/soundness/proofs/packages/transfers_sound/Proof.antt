@@ -8,9 +8,6 @@ use Rattle.base.proofs.Ladder.{and-stop, and-on}
 use Rattle.soundness.proofs.Order.{withinLimits, transfers-limits}
 use Rattle.soundness.proofs.packages.transfers_sound.Statement.{statement}
 use Rattle.soundness.proofs.packages.transfers_sound.Tie as tie
-use Rattle.soundness.proofs.packages.transfers_sound.Reads as reads
-use Rattle.soundness.proofs.packages.transfers_sound.Lts as lts
-use Rattle.soundness.proofs.packages.packages_rise.Reads as packages-rise-reads
 
 add-if1 : tie.Need-add-if1
 add-if1 c = search needs

@@ -1,0 +1,24 @@
+-- The session's list as the code has it: the first of an array's entries.
+use Prim.Native.Nat.{ℕ}
+use mathlib.Core.Bool.{Bool, false, _||_}
+use mathlib.Core.List.{List, [], _∷_, map}
+use lib.Dec.{eqb}
+use lib.ListN.{take}
+use Rattle.actions.specs.Action.{Action}
+use Rattle.actions.specs.View.{viewAction}
+use Rattle.state.specs.declared.session.Entry.{Entry}
+
+abbrev pub entryAction : Entry → Action
+entryAction e = viewAction (e .action)
+
+-- the actions of the entries that count
+abbrev pub listedActions : List Entry → ℕ → List Action
+listedActions entries count = map entryAction (take count entries)
+
+-- the part number of the cluster that an entry's action is about
+abbrev pub entryPart : Entry → ℕ
+entryPart e = e .action .cluster .part
+
+unfoldable pub isAmong : ℕ → List ℕ → Bool
+isAmong number [] = false
+isAmong number (n ∷ rest) = eqb number n || isAmong number rest

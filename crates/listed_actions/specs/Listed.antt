@@ -1,5 +1,6 @@
 -- The session's list as the code has it: the first of an array's entries.
 use Prim.Native.Nat.{ℕ}
+use mathlib.Core.Path.{_≡_}
 use mathlib.Core.Bool.{Bool, false, _||_}
 use mathlib.Core.List.{List, [], _∷_, map}
 use lib.Dec.{eqb}
@@ -7,6 +8,7 @@ use lib.ListN.{take}
 use Rattle.actions.specs.Action.{Action}
 use Rattle.actions.specs.View.{viewAction}
 use Rattle.state.specs.declared.session.Entry.{Entry}
+use Rattle.listed_actions.specs.declared.columns.EntryColumns.{EntryColumns}
 
 abbrev pub entryAction : Entry → Action
 entryAction e = viewAction (e .action)
@@ -18,6 +20,14 @@ listedActions entries count = map entryAction (take count entries)
 -- the part number of the cluster that an entry's action is about
 abbrev pub entryPart : Entry → ℕ
 entryPart e = e .action .cluster .part
+
+abbrev pub entryId : Entry → ℕ
+entryId e = e .id
+
+-- the columns are those of so many entries
+pub record EntryColumnsOf (columns : EntryColumns) (entries : List Entry) (count : ℕ) : Type 0 where
+  pub ids : take count (columns .ids) ≡ map entryId entries
+  pub parts : take count (columns .parts) ≡ map entryPart entries
 
 unfoldable pub isAmong : ℕ → List ℕ → Bool
 isAmong number [] = false

@@ -1,5 +1,6 @@
 // The refusals 11 to 15 of the listed actions, in turn.
-use crate::numbers::is_among;
+use crate::columns::entry_columns;
+use crate::columns::is_among;
 use actions::action::Change;
 use clusters::columns::Columns;
 use clusters::columns::place_of;
@@ -11,33 +12,15 @@ use state::session::Entry;
 use text::version::Version;
 ghost use mathlib.Core.Path.{_≡_};
 ghost use mathlib.Core.Bool.{true};
-ghost use mathlib.Core.List.{[], map};
+ghost use mathlib.Core.List.{[]};
 ghost use Prim.Native.Nat.{_+_, _≤_, _<_};
-ghost use lib.ListN.{take};
 ghost use Rattle.clusters.specs.Table.{Table as PlainTable, tableWithin, clustersMost};
 ghost use Rattle.clusters.specs.Columns.{ColumnsOf};
 ghost use Rattle.actions.specs.Action.{actionsWithin};
 ghost use Rattle.actions.specs.Refusals.{passInTurn};
 ghost use Rattle.state.specs.View.{entriesMost};
-ghost use Rattle.listed_actions.specs.Listed.{entryPart, listedActions};
+ghost use Rattle.listed_actions.specs.Listed.{listedActions};
 ghost use Rattle.listed_actions.specs.InTurn.{placeOrFirst, passesAbsent, passesPresent, passesAt, stagedAfterChange};
-
-// The part numbers of the clusters that the listed actions are about. pass_in_turn passes on what it requires of their number.
-fn action_parts(entries: [Entry; ENTRIES_MOST], count: usize) -> [u32; ENTRIES_MOST]
-    requires { ⌜ count ≤ entriesMost ⌝ }
-    ensures { λ r. ⌜ take count r ≡ map entryPart (take count entries) ⌝ }
-{
-    let mut parts = [0u32; ENTRIES_MOST];
-    let mut i = 0;
-    while i < count {
-        let entry = entries[i];
-        let action = entry.action;
-        let cluster = action.cluster;
-        parts[i] = cluster.part;
-        i += 1;
-    }
-    parts
-}
 
 // A place to read a version from, where the cluster is there or not.
 fn place_or_first(place: Found) -> usize
@@ -100,7 +83,7 @@ pub fn pass_in_turn(columns: Columns, entries: [Entry; ENTRIES_MOST], count: usi
     requires { ⌜ (columns .count ≤ clustersMost) × (count ≤ entriesMost) ⌝ }
     ensures { λ r. ⌜ ((t : PlainTable) → ColumnsOf columns t → tableWithin t ≡ true → actionsWithin (listedActions entries count) ≡ true → r ≡ passInTurn t [] (listedActions entries count)) ⌝ }
 {
-    let parts = action_parts(entries, count);
+    let listed = entry_columns(entries, count);
     let clusters = columns.count;
     let mut staged = clusters;
     let mut i = 0;
@@ -108,7 +91,7 @@ pub fn pass_in_turn(columns: Columns, entries: [Entry; ENTRIES_MOST], count: usi
         let entry = entries[i];
         let action = entry.action;
         let cluster = action.cluster;
-        if is_among(&parts, i, cluster.part) {
+        if is_among(&listed.parts, i, cluster.part) {
             return false;
         }
         let place = place_of(&columns.parts, clusters, cluster.part);

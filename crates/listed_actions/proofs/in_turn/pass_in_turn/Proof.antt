@@ -26,19 +26,19 @@ use Rattle.listed_actions.proofs.in_turn.pass_in_turn.Statement.{statem
 use Rattle.listed_actions.proofs.in_turn.pass_in_turn.Tie as tie
 
 abbrev Inv-loop : tie.InvT-loop
-Inv-loop count columns entries parts clusters staged₀ i₀ staged i =
+Inv-loop count columns entries listed clusters staged₀ i₀ staged i =
     (i ≤ count) × (staged ≤ clustersMost + i)
     × ((t : Table) → ColumnsOf columns t → tableWithin t ≡ true → actionsWithin (listedActions entries count) ≡ true
     → passInTurn t [] (listedActions entries count) ≡ passInTurnOn t staged (take i (listedActions entries count)) (drop i (listedActions entries count)))
 
 abbrev μ-loop : tie.MeasureT-loop
-μ-loop count columns entries parts clusters staged₀ i₀ staged i = count - i
+μ-loop count columns entries listed clusters staged₀ i₀ staged i = count - i
 
 long : (c : tie.Start Inv-loop μ-loop) → length (c .args .t2) ≡ entriesMost
 long c = search (needs, unmapped)
 
-action-parts-requires : tie.Need-action-parts-requires Inv-loop μ-loop
-action-parts-requires c κs = search needs
+entry-columns-requires : tie.Need-entry-columns-requires Inv-loop μ-loop
+entry-columns-requires c κs = search needs
 
 loop-holds : tie.Need-loop-holds Inv-loop μ-loop
 loop-holds c =
@@ -59,9 +59,9 @@ is-among-requires c κs = (omega arith, search needs)
 
 returns : tie.Need-returns Inv-loop μ-loop
 returns c t of w within =
-    let x = c .before .before .before .before .before .before in
+    let x = c .before .before .before .before .before .before .before in
     let s = x .before .before .before in
-    stops-touched t (s .args .t2) (s .args .count) (x .before .loop .i) (x .before .loop .staged) (x .before .before .action-parts .result) (omega (arith, long s, s .pre .1)) (x .loop-test .taken) (x .before .before .action-parts .ensures) _ _ (x .before .loop .inv .2 t of w within) (sym (c .before .is-among .ensures) ∙ c .if1 .taken)
+    stops-touched t (s .args .t2) (s .args .count) (x .before .loop .i) (x .before .loop .staged) (x .before .before .entry-columns .result .parts) (omega (arith, long s, s .pre .1)) (x .loop-test .taken) (x .before .before .entry-columns .ensures .parts) _ _ (x .before .loop .inv .2 t of w within) (sym (c .before .is-among .ensures) ∙ c .if1 .taken)
 
 place-of-requires : tie.Need-place-of-requires Inv-loop μ-loop
 place-of-requires c κs = search needs
@@ -71,7 +71,7 @@ place-or-first-requires c κs = search needs
 
 below : (c : tie.After-place-or-first Inv-loop μ-loop) → c .place-or-first .result < clustersMost
 below c =
-    let s = c .before .before .before .before .before .before .before .before .before .before .before .before .before in
+    let s = c .before .before .before .before .before .before .before .before .before .before .before .before .before .before in
     rw (c .place-or-first .ensures) (place-or-first-below _ _ _ _ _ (s .pre .0) (omega arith) (c .before .place-of .ensures))
 
 mul-old : tie.Need-mul-old Inv-loop μ-loop
@@ -96,7 +96,7 @@ abbrev untouched : tie.After-passes-at Inv-loop μ-loop → tie.Else1 Inv-loop �
 untouched k = with-place k .before .before .before .before
 
 abbrev turn : tie.After-passes-at Inv-loop μ-loop → tie.In-loop Inv-loop μ-loop
-turn k = untouched k .before .before .before .before .before .before
+turn k = untouched k .before .before .before .before .before .before .before
 
 told : (k : tie.After-passes-at Inv-loop μ-loop) → (let x = turn k in let a = x .before .before .before .args in
     (t : Table) → ColumnsOf (a .t1) t → k .passes-at .result ≡ passesUntouched t (x .before .loop .staged) (entryAction (getD (a .t2) (x .before .loop .i) noEntry)))
@@ -114,7 +114,7 @@ returns-2 c t of w within =
     let k = c .before in
     let x = turn k in
     let s = x .before .before .before in
-    stops-refused t (s .args .t2) (s .args .count) (x .before .loop .i) (x .before .loop .staged) (x .before .before .action-parts .result) (omega (arith, long s, s .pre .1)) (x .loop-test .taken) (x .before .before .action-parts .ensures) _ _ (x .before .loop .inv .2 t of w within) (sym (untouched k .before .is-among .ensures) ∙ untouched k .if1 .left) (told-no _ _ (told k t of) (c .if2 .taken))
+    stops-refused t (s .args .t2) (s .args .count) (x .before .loop .i) (x .before .loop .staged) (x .before .before .entry-columns .result .parts) (omega (arith, long s, s .pre .1)) (x .loop-test .taken) (x .before .before .entry-columns .ensures .parts) _ _ (x .before .loop .inv .2 t of w within) (sym (untouched k .before .is-among .ensures) ∙ untouched k .if1 .left) (told-no _ _ (told k t of) (c .if2 .taken))
 
 staged-after-requires : tie.Need-staged-after-requires Inv-loop μ-loop
 staged-after-requires c κs = omega arith
@@ -136,7 +136,7 @@ loop-again c =
       omega (arith, x .loop-test .taken),
       omega (arith, one-more, x .before .loop .inv .1),
       λ t of w within.
-          goes-on t (s .args .t2) (s .args .count) i (x .before .loop .staged) (x .before .before .action-parts .result) (omega (arith, long s, s .pre .1)) (x .loop-test .taken) (x .before .before .action-parts .ensures) _ _ (x .before .loop .inv .2 t of w within) (sym (untouched k .before .is-among .ensures) ∙ untouched k .if1 .left) (told-yes _ _ (told k t of) (c .before .if2 .left))
+          goes-on t (s .args .t2) (s .args .count) i (x .before .loop .staged) (x .before .before .entry-columns .result .parts) (omega (arith, long s, s .pre .1)) (x .loop-test .taken) (x .before .before .entry-columns .ensures .parts) _ _ (x .before .loop .inv .2 t of w within) (sym (untouched k .before .is-among .ensures) ∙ untouched k .if1 .left) (told-yes _ _ (told k t of) (c .before .if2 .left))
           ∙ ap (λ (n : ℕ). passInTurnOn t n (take (i + 1) listed) (drop (i + 1) listed)) (sym (c .staged-after .ensures)),
     )
 
@@ -154,7 +154,7 @@ pass-in-turn-spec =
     (tie.spec
     Inv-loop
     μ-loop
-    action-parts-requires
+    entry-columns-requires
     loop-holds
     mul-entry
     array-copy-out-entry

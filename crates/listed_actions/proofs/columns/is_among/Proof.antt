@@ -1,4 +1,4 @@
--- `listed_actions::numbers::is_among` meets its contract. The loop's invariant: the number is among the column exactly where it is among
+-- `listed_actions::columns::is_among` meets its contract. The loop's invariant: the number is among the column exactly where it is among
 -- what stands from i on. The measure is what is left of the column. Assumes nothing.
 use borrow.Author.Needs.{needs}
 use native.Mathlib.Omega.{arith}
@@ -10,8 +10,8 @@ use borrow.Author.Tests.{eq-eqb, ne-eqb}
 use Rattle.clusters.proofs.Arrays.{seen-step, seen-end}
 use Rattle.state.specs.View.{entriesMost}
 use Rattle.listed_actions.specs.Listed.{isAmong}
-use Rattle.listed_actions.proofs.numbers.is_among.Statement.{statement}
-use Rattle.listed_actions.proofs.numbers.is_among.Tie as tie
+use Rattle.listed_actions.proofs.columns.is_among.Statement.{statement}
+use Rattle.listed_actions.proofs.columns.is_among.Tie as tie
 
 abbrev Inv-loop : tie.InvT-loop
 Inv-loop numbers count number i₀ i = (i ≤ count) × (isAmong number (take count numbers) ≡ isAmong number (drop i (take count numbers)))

@@ -10,12 +10,12 @@ use Rattle.state.specs.declared.transfers.Transfers.{Transfers}
 use Rattle.state.specs.View.{viewPackages, viewTransfers}
 use Rattle.state.proofs.Views.{packages-fit}
 
-and-left-comm : (a b c : Bool) → a && (b && c) ≡ b && (a && c)
+pub and-left-comm : (a b c : Bool) → a && (b && c) ≡ b && (a && c)
 and-left-comm true b c = refl
 and-left-comm false true c = refl
 and-left-comm false false c = refl
 
-ruleset reordered = (and-assoc, and-comm, and-left-comm)
+pub ruleset reordered = (and-assoc, and-comm, and-left-comm)
 
 limits-first : (room fits few begun ids rise : Bool)
     → (room && fits) && (few && (begun && (ids && rise))) ≡ (few && (room && (begun && ids))) && (rise && fits)

@@ -5,3 +5,5 @@ pub mod Counting
 pub mod PhaseNumbers
 pub mod Listing
 pub mod ListParts
+pub mod KeptParts
+pub mod Whole

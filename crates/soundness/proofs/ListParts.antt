@@ -2,14 +2,15 @@
 -- packages fits its array. Of the array's room only that it has a place for each package is used. Assumes nothing.
 use Prim.Native.Nat.{ℕ, _+_, _≤_}
 use mathlib.Core.Path.{_≡_, refl, sym, ap, _∙_}
-use mathlib.Core.Bool.{Bool, true, false, not, cond, _&&_, and-assoc, and-comm}
+use mathlib.Core.Bool.{Bool, true, false, cond, _&&_}
 use mathlib.Core.List.{List, [], _∷_, map}
 use native.Mathlib.Omega.{arith}
 use lib.Dec.{eqb, leb}
 use lib.ListN.{length, take, length-map, length-take, length-replicate, replicate}
-use borrow.Author.Tests.{eq-eqb, ne-eqb, le-leb, leb-true, not-true, not-false}
+use borrow.Author.Tests.{eq-eqb, ne-eqb, eqb-true, le-leb, leb-true}
 use Rattle.base.specs.Counted.{counted}
 use Rattle.base.proofs.Counted.{counted-few}
+use Rattle.base.proofs.Tests.{and-left, and-right}
 use Rattle.base.proofs.Ladder.{and-stop, and-on}
 use Rattle.clusters.proofs.ColumnLaws.{map-twice}
 use Rattle.model.specs.State.{PackageState, transferring, transferred, beingProcessed, processed, Package, Phase, Entry, isProcessing}
@@ -86,3 +87,11 @@ module _ (entries : List EntryStruct) (count : ℕ) (long : length entries ≡ e
 
     pub phase-fit : count ≡ countIn isProcessed ps → phasePart ≡ true → (r : Bool) → r ≡ processedAsListed listed ps → r ≡ whole
     phase-fit h e r told = and-on (eqb count (countIn isProcessed ps)) _ _ (eq-eqb _ _ h) (and-on phasePart _ r e told) ∙ sym parts
+
+    -- what a sound list says of the numbers
+    pub numbers-told : whole ≡ true → (count ≡ countIn isProcessed ps) × (countIn isBeingProcessed ps ≡ cond (isProcessing phase) 1 0)
+    numbers-told h =
+        let e = sym parts ∙ h in
+        let many = eqb count (countIn isProcessed ps) in
+        let being = eqb (countIn isBeingProcessed ps) (cond (isProcessing phase) 1 0) in
+        (eqb-true _ _ (and-left many _ e), eqb-true _ _ (and-left being _ (and-left phasePart _ (and-right many _ e))))

@@ -1,9 +1,11 @@
 -- The parts of soundness in the order in which the code decides them: counts and limits before what is looked through. Assumes nothing.
-use Prim.Native.Nat.{ℕ, _+_}
-use mathlib.Core.Path.{_≡_, refl, ap, _∙_}
+use Prim.Native.Nat.{ℕ, _+_, _≤_}
+use mathlib.Core.Path.{_≡_, refl, sym, ap, _∙_}
 use mathlib.Core.Bool.{Bool, true, false, _&&_, and-assoc, and-comm}
 use lib.Dec.{leb}
 use lib.ListN.{length as listLength}
+use borrow.Author.Tests.{leb-true}
+use Rattle.base.proofs.Tests.{and-left, and-right}
 use Rattle.model.specs.Areas.{declared}
 use Rattle.model.specs.Sound.{storeMost, packagesMost, idMost, storeSound, packagesRise, transfersSound}
 use Rattle.state.specs.declared.transfers.Transfers.{Transfers}
@@ -31,3 +33,12 @@ transfers-limits t length =
     limits-first (leb length storeMost) (leb (declared (viewPackages t)) length) (leb (listLength (viewPackages t)) packagesMost) (leb 1 (t .next))
     (leb (t .next) (idMost + 1)) (packagesRise 0 (t .next) (viewPackages t))
     ∙ ap (λ (few : Bool). (few && (leb length storeMost && (leb 1 (t .next) && leb (t .next) (idMost + 1)))) && (packagesRise 0 (t .next) (viewPackages t) && leb (declared (viewPackages t)) length)) (packages-fit t)
+
+pub limits-told : (t : Transfers) (length : ℕ) → storeSound (viewPackages t) length && transfersSound (viewTransfers t) ≡ true
+    → (t .count ≤ packagesMost) × (packagesRise 0 (t .next) (viewPackages t) ≡ true)
+limits-told t length h =
+    let e = sym (transfers-limits t length) ∙ h in
+    let limits = withinLimits t length in (
+      leb-true _ _ (and-left _ _ (and-left limits _ e)),
+      and-left (packagesRise 0 (t .next) (viewPackages t)) _ (and-right limits _ e),
+    )

@@ -16,8 +16,6 @@ use Rattle.soundness.proofs.Along.{packages-step, packages-end}
 use Rattle.soundness.proofs.Counting.{CountedTo, none-counted, one-counted, all-counted}
 use Rattle.soundness.proofs.counts.count_states.Statement.{statement}
 use Rattle.soundness.proofs.counts.count_states.Tie as tie
-use Rattle.soundness.proofs.counts.count_states.Reads as reads
-use Rattle.soundness.proofs.counts.count_states.Lts as lts
 
 abbrev Inv-loop : tie.InvT-loop
 Inv-loop t count processed₀ processing₀ i₀ processed processing i =

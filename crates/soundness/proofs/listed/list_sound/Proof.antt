@@ -18,8 +18,6 @@ use Rattle.soundness.specs.Parts.{countedEntries}
 use Rattle.soundness.proofs.ListParts.{room-for-all, counted-ids, counted-length, other-count, phase-unfit, phase-fit}
 use Rattle.soundness.proofs.listed.list_sound.Statement.{statement}
 use Rattle.soundness.proofs.listed.list_sound.Tie as tie
-use Rattle.soundness.proofs.listed.list_sound.Reads as reads
-use Rattle.soundness.proofs.listed.list_sound.Lts as lts
 
 long : (c : tie.Start) → length (c .args .entries) ≡ entriesMost
 long c = search (needs, unmapped)

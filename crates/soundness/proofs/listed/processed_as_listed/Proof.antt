@@ -15,8 +15,6 @@ use Rattle.soundness.proofs.Along.{packages-step, packages-end}
 use Rattle.soundness.proofs.Listing.{stops, goes-on}
 use Rattle.soundness.proofs.listed.processed_as_listed.Statement.{statement}
 use Rattle.soundness.proofs.listed.processed_as_listed.Tie as tie
-use Rattle.soundness.proofs.listed.processed_as_listed.Reads as reads
-use Rattle.soundness.proofs.listed.processed_as_listed.Lts as lts
 
 abbrev Inv-loop : tie.InvT-loop
 Inv-loop listed t ids count i₀ i =

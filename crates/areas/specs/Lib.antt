@@ -1,3 +1,4 @@
 pub mod Place
 pub mod FirstPlaces
 pub mod Deletion
+pub mod Changed

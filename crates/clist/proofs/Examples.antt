@@ -8,7 +8,7 @@ use lib.ListN.{length, take}
 use lib.Seq.{take-all}
 use Rattle.base.specs.Quoted.{bytes, LF}
 use Rattle.model.specs.State.{State}
-use Rattle.model.specs.Open.{computing}
+use Rattle.model.proofs.examples.Open.{computing}
 use Rattle.clist.specs.Answer.{answerTo, ReadInto}
 
 abbrev line : String → List ℕ → List ℕ

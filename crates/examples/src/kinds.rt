@@ -1,5 +1,4 @@
 // The kinds of cases.
-use crate::actions;
 use crate::case::field;
 use crate::comparisons;
 use crate::lists;
@@ -7,6 +6,7 @@ use crate::numbers;
 use crate::packages;
 use crate::show;
 use crate::sums;
+use crate::table_actions;
 use crate::versions;
 use text::word::is_word;
 
@@ -38,7 +38,7 @@ pub fn show_case(case: &[u8]) {
         4 => comparisons::compare(case),
         5 => comparisons::need(case),
         6 => comparisons::needs(case),
-        7 => actions::action(case),
+        7 => table_actions::action(case),
         8 => lists::list(case),
         9 => packages::package(case),
         _ => show::bytes(b" no such kind of case\n"),

@@ -1,6 +1,5 @@
 // Exercises the functions on good and damaged input and prints what each gives. The cases are data: the file stdin beside src/ has
 // them, in the form that `case` says, and the file stdout what must be printed, written from document 01.
-mod actions;
 mod case;
 mod comparisons;
 mod kinds;
@@ -9,6 +8,7 @@ mod numbers;
 mod packages;
 mod show;
 mod sums;
+mod table_actions;
 mod values;
 mod versions;
 

@@ -1,8 +1,8 @@
--- `examples::actions::show_table` is safe. The invariant says nothing; the measure is the clusters that are left. Assumes nothing.
+-- `examples::table_actions::show_table` is safe. The invariant says nothing; the measure is the clusters that are left. Assumes nothing.
 use Prim.Native.Nat.{_-_}
 use borrow.Author.Needs.{needs}
-use Rattle.examples.proofs.actions.show_table.Statement.{statement}
-use Rattle.examples.proofs.actions.show_table.Tie as tie
+use Rattle.examples.proofs.table_actions.show_table.Statement.{statement}
+use Rattle.examples.proofs.table_actions.show_table.Tie as tie
 
 abbrev Inv-loop : tie.InvT-loop
 Inv-loop table count i₀ i = Unit {0}

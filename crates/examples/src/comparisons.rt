@@ -1,8 +1,8 @@
 // Versions compared, and needs met by a table.
-use crate::case::field;
-use crate::show;
-use crate::values::number_of;
-use crate::values::version_of;
+use cases::case::field;
+use cases::show;
+use cases::values::number_of;
+use cases::values::version_of;
 use cluster_list::read::read_list;
 use clusters::cluster::Need;
 use clusters::cluster::new_cluster;

@@ -1,34 +1,23 @@
 // The kinds of cases.
-use crate::case::field;
 use crate::comparisons;
 use crate::lists;
 use crate::numbers;
 use crate::packages;
-use crate::show;
 use crate::sums;
 use crate::table_actions;
 use crate::versions;
-use text::word::is_word;
-
-// The place of a sentence among the ten sentences, or 10.
-fn place_of(sentence: &[u8], sentences: &[u8]) -> usize {
-    let mut k = 0;
-    while k < 10 {
-        if is_word(field(sentences, k), sentence) {
-            return k;
-        }
-        k += 1;
-    }
-    k
-}
+use cases::case::field;
+use cases::case::kind_of;
+use cases::show;
 
 // A case, by its sentence.
 pub fn show_case(case: &[u8]) {
     let sentence = field(case, 0);
     show::with_fields(sentence, case);
-    let kind = place_of(
+    let kind = kind_of(
         sentence,
         b"number `%` up to %:;number written in;version `%`:;sum of `%` and `%`:;% above %:;need of % at %, 20 at %:;% needs %:;% %:;list, %:;package, %:;",
+        10,
     );
     match kind {
         0 => numbers::read(case),

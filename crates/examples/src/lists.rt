@@ -1,6 +1,6 @@
 // Cluster lists, read and written again.
-use crate::case::field;
-use crate::show;
+use cases::case::field;
+use cases::show;
 use cluster_list::limits::WRITTEN_LIST_MOST;
 use cluster_list::read::ListAnswer;
 use cluster_list::read::read_list;

@@ -1,15 +1,12 @@
 // Exercises the functions on good and damaged input and prints what each gives. The cases are data: the file stdin beside src/ has
 // them, in the form that `case` says, and the file stdout what must be printed, written from document 01.
-mod case;
 mod comparisons;
 mod kinds;
 mod lists;
 mod numbers;
 mod packages;
-mod show;
 mod sums;
 mod table_actions;
-mod values;
 mod versions;
 
 use crate::kinds::show_case;

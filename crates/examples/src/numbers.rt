@@ -1,7 +1,7 @@
 // Numbers as text.
-use crate::case::field;
-use crate::show;
-use crate::values::number_of;
+use cases::case::field;
+use cases::show;
+use cases::values::number_of;
 use text::number::Number;
 use text::number::whole_number;
 use text::write::number_length;

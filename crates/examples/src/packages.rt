@@ -1,10 +1,10 @@
 // Packages: the text of an area and where its payload lies.
 ghost use mathlib.Core.Path.{_≡_};
 ghost use Rattle.manifest.specs.Answer.{answerNumber};
-use crate::case::field;
-use crate::show;
 use actions::action::Action;
 use actions::action::Change;
+use cases::case::field;
+use cases::show;
 use manifest::package::PackageAnswer;
 use manifest::package::PackageRead;
 use manifest::package::read_package;

@@ -1,6 +1,6 @@
 // The sum of a payload.
-use crate::case::field;
-use crate::show;
+use cases::case::field;
+use cases::show;
 use checksum::continue_sum;
 use checksum::number;
 use checksum::start;

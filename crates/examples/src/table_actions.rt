@@ -1,11 +1,11 @@
 // Actions on a table.
-use crate::case::field;
-use crate::show;
-use crate::values::number_of;
-use crate::values::version_of;
 use actions::action::Action;
 use actions::action::action_refusal;
 use actions::action::apply;
+use cases::case::field;
+use cases::show;
+use cases::values::number_of;
+use cases::values::version_of;
 use cluster_list::read::read_list;
 use clusters::cluster::new_cluster;
 use clusters::table::CLUSTERS_MOST;

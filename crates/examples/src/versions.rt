@@ -1,6 +1,6 @@
 // Versions as text.
-use crate::case::field;
-use crate::show;
+use cases::case::field;
+use cases::show;
 use text::version::VersionRead;
 use text::version::whole_version;
 use text::write::put_version;

@@ -2,6 +2,7 @@
 // `%` and says of which kind the case is; the answer is printed behind it. A field has any bytes but `#` and `;`, LF among them.
 ghost use Prim.Native.Nat.{_≤_};
 ghost use lib.ListN.{length};
+use text::word::is_word;
 
 // Where field number k of a case begins, counted from 0; the end where there is none.
 fn field_start(case: &[u8], k: usize) -> usize
@@ -26,4 +27,16 @@ pub fn field(case: &[u8], k: usize) -> &[u8] {
     let from = field_start(case, k);
     let to = bytes::scan::find(case, from, case.len(), b';');
     &case[from..to]
+}
+
+// The place of a sentence among the first sentences of a text, each with `;` behind it, or their number.
+pub fn kind_of(sentence: &[u8], sentences: &[u8], number: usize) -> usize {
+    let mut k = 0;
+    while k < number {
+        if is_word(field(sentences, k), sentence) {
+            return k;
+        }
+        k += 1;
+    }
+    k
 }

@@ -1,11 +1,11 @@
--- `examples::show::with_fields` is safe. The invariant: no more fields are passed than bytes of the sentence; the measure is what is left of it. Assumes nothing.
+-- `cases::show::with_fields` is safe. The invariant: no more fields are passed than bytes of the sentence; the measure is what is left of it. Assumes nothing.
 use Prim.Native.Nat.{_+_, _≤_, _-_}
 use mathlib.Core.Logic.{⊎-elim}
 use native.Mathlib.Omega.{arith}
 use lib.ListN.{length}
 use borrow.Author.Needs.{needs}
-use Rattle.examples.proofs.show.with_fields.Statement.{statement}
-use Rattle.examples.proofs.show.with_fields.Tie as tie
+use Rattle.cases.proofs.show.with_fields.Statement.{statement}
+use Rattle.cases.proofs.show.with_fields.Tie as tie
 
 abbrev Inv-loop : tie.InvT-loop
 Inv-loop sentence case k₀ i₀ k i = k ≤ i + 1

@@ -1,9 +1,9 @@
--- `examples::case::field_start` gives a position of the case. The invariant: the position is within the case; the measure is what is left of it. Assumes nothing.
+-- `cases::case::field_start` gives a position of the case. The invariant: the position is within the case; the measure is what is left of it. Assumes nothing.
 use Prim.Native.Nat.{_≤_, _-_}
 use lib.ListN.{length}
 use borrow.Author.Needs.{needs}
-use Rattle.examples.proofs.case.field_start.Statement.{statement}
-use Rattle.examples.proofs.case.field_start.Tie as tie
+use Rattle.cases.proofs.case.field_start.Statement.{statement}
+use Rattle.cases.proofs.case.field_start.Tie as tie
 
 abbrev Inv-loop : tie.InvT-loop
 Inv-loop case k left₀ i₀ left i = i ≤ length case

@@ -1,14 +1,14 @@
--- `examples::kinds::place_of` is safe. The invariant says nothing; the measure is the sentences that are left. Assumes nothing.
+-- `cases::case::kind_of` is safe. The invariant says nothing; the measure is the sentences that are left. Assumes nothing.
 use Prim.Native.Nat.{_-_}
 use borrow.Author.Needs.{needs}
-use Rattle.examples.proofs.kinds.place_of.Statement.{statement}
-use Rattle.examples.proofs.kinds.place_of.Tie as tie
+use Rattle.cases.proofs.case.kind_of.Statement.{statement}
+use Rattle.cases.proofs.case.kind_of.Tie as tie
 
 abbrev Inv-loop : tie.InvT-loop
-Inv-loop sentence sentences k₀ k = Unit {0}
+Inv-loop sentence sentences number k₀ k = Unit {0}
 
 abbrev μ-loop : tie.MeasureT-loop
-μ-loop sentence sentences k₀ k = 10 - k
+μ-loop sentence sentences number k₀ k = number - k
 
 loop-holds : tie.Need-loop-holds Inv-loop μ-loop
 loop-holds c = search needs
@@ -34,8 +34,8 @@ loop-again c = search needs
 returns-2 : tie.Need-returns-2 Inv-loop μ-loop
 returns-2 c = search needs
 
-pub place-of-spec : {M : Type 1} → statement M
-place-of-spec =
+pub kind-of-spec : {M : Type 1} → statement M
+kind-of-spec =
     tie.close
     (tie.spec
     Inv-loop

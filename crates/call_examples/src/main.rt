@@ -1,0 +1,31 @@
+// Exercises the calls: each case is a call on the state and the store that the one before left. The file stdin beside src/ has the cases, in the form that `cases::case` says, and the file stdout what must be printed,
+// written from document 01.
+mod answers;
+mod calls;
+mod unsound;
+
+use crate::calls::make_call;
+use clusters::table::empty_table;
+use libc::STDIN_FILENO;
+use state::state::loaded_state;
+
+// Each case, from behind its `#` to the next.
+fn make_calls(input: &[u8], store: &mut [u8]) {
+    let mut s = loaded_state(empty_table(), 1);
+    let mut at = 1;
+    while at < input.len() {
+        let end = bytes::scan::find(input, at, input.len(), b'#');
+        s = make_call(s, store, &input[at..end]);
+        if input.len() <= end {
+            return;
+        }
+        at = end + 1;
+    }
+}
+
+fn main() {
+    let mut input = io::large_buffer();
+    let length = io::read_full(STDIN_FILENO, &mut input);
+    let mut store = [255u8; 200];
+    make_calls(&input[..length], &mut store);
+}

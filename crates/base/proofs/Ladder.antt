@@ -18,6 +18,13 @@ and-stop a b e = rw e
 pub and-on : (a b x : Bool) → a ≡ true → x ≡ b → x ≡ a && b
 and-on a b x e q = rw e q
 
+-- the same with the conjunction on the left
+pub both-stop : (a b : Bool) → a ≡ false → a && b ≡ false
+both-stop a b e = rw e
+
+pub both-on : (a b x : Bool) → a ≡ true → b ≡ x → a && b ≡ x
+both-on a b x e q = rw e q
+
 pub or-stop : (a b : Bool) → a ≡ true → true ≡ a || b
 or-stop a b e = rw e
 
@@ -41,5 +48,7 @@ pub told-lt : (k r n : ℕ) → r ≡ n → r < k → leb k n ≡ false
 told-lt k r n e h = lt-leb k n (rw e at h)
 
 pub ruleset ladder = (take-first, take-second, and-stop, and-on, or-stop, or-on, lt-ltb, le-ltb, eq-eqb, ne-eqb, le-leb, lt-leb)
+
+pub ruleset both = (both-stop, both-on)
 
 pub ruleset told-ladder = (ladder, told, told-no, told-yes, told-le, told-lt)

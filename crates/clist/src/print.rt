@@ -5,8 +5,8 @@ ghost use Rattle.text.specs.Put.{Put};
 ghost use Rattle.clist.specs.Answer.{answerTo};
 use cluster_list::read::ListAnswer;
 use cluster_list::read::read_list;
-use cluster_list_writer::put::put_bytes;
 use cluster_list_writer::write::write_list;
+use text::write::put_bytes;
 
 // The list that our writer writes, or the refusal, at the start of a buffer with room for the longest list; main lends one.
 pub fn put_answer(input: &[u8], buf: &mut [u8]) -> usize

@@ -18,7 +18,7 @@ use Rattle.rows.specs.Line.{lineText}
 use Rattle.clusters.specs.declared.cluster.Need.{Need}
 use Rattle.clusters.specs.Cluster.{Cluster, partWithin, needWithin, needsWithin, needsMost, clusterWithin}
 use Rattle.clusters.specs.Table.{Table, clustersMost, risingAbove, tableWithin}
-use Rattle.cluster_list.specs.Write.{namesLine, needCells, needLineText, needLinesText, clusterLines, clustersText, writeList}
+use Rattle.cluster_list.specs.Write.{writtenListMost, namesLine, needCells, needLineText, needLinesText, clusterLines, clustersText, writeList}
 
 -- three commas and LF
 pub line-length : (w x y z : List ℕ) → length (lineText (w ∷ x ∷ y ∷ z ∷ [])) ≡ length w + length x + length y + length z + 4
@@ -99,7 +99,7 @@ clusters-most last (c ∷ t) h =
     )
 
 -- 28 + 64 × 181
-pub list-most : (t : Table) → tableWithin t ≡ true → length (writeList t) ≤ 11612
+pub list-most : (t : Table) → tableWithin t ≡ true → length (writeList t) ≤ writtenListMost
 unfolding tableWithin writeList
 list-most t h =
     omega (

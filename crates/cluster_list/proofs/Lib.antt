@@ -8,3 +8,4 @@ pub mod Built
 pub mod ReadLaws
 pub mod LineLength
 pub mod ReadLengths
+pub mod Longest

@@ -23,6 +23,9 @@ use Rattle.text.proofs.Meaning.{whole-number-written, whole-version-written}
 use Rattle.text.proofs.ThenLaws.{then-cases, then-cases-version}
 use Rattle.rows.specs.declared.columns.ClusterColumns.{ClusterColumns}
 use Rattle.rows.specs.Columns.{clusterColumns}
+use Rattle.rows.specs.Names.{clusterNames}
+use Rattle.rows.proofs.ColumnMeaning.{column-cell}
+use Rattle.rows.proofs.NamesOnce.{Placed, none as nowhere, more, clusterPlaces, cluster-placed}
 use Rattle.rows.proofs.ThenLaws.{then-cases-line, then-cases-cluster-columns}
 use Rattle.rows.specs.Field.{cell, isEmpty}
 use Rattle.rows.specs.Line.{lineFrom}
@@ -33,10 +36,10 @@ use Rattle.clusters.proofs.Limits.{rising-says, few-clusters, rising-clusters, 
 use Rattle.cluster_list.specs.declared.cells.NeedRead.{NeedRead}
 use Rattle.cluster_list.specs.declared.cells.NeedRead.the-variants as need
 use Rattle.cluster_list.specs.Cells.{partField, needOf, needFields}
-use Rattle.cluster_list.specs.Read.{lastPart, clusterAdded, needAdded, needLine, clusterBegun, clusterLine, valueLine, valueLines, readList}
+use Rattle.cluster_list.specs.Read.{lastPart, clusterAdded, needAdded, needLine, clusterBegun, clusterLine, valueLine, valueLines, readList, readListMost}
 use Rattle.cluster_list.proofs.ThenLaws.{then-cases-need}
 use Rattle.cluster_list.proofs.Within.{then-cases-some, readList-within}
-use Rattle.cluster_list.proofs.LineLength.{sorted, Columns, ColumnsOf, columns-of, rowLength, line-bytes}
+use Rattle.cluster_list.proofs.LineLength.{rowLength, row-bytes}
 
 -- ---- fields
 
@@ -157,19 +160,19 @@ abbrev Read : ℕ → ℕ → Table → Option Table → Type 0
 Read long at t none = Unit {0}
 Read long at t (some u) = long + 37 * entries t ≤ at + 37 * entries u
 
-lines-read : (columns : ClusterColumns) → sorted (columns .cluster ∷ columns .version ∷ columns .needs ∷ columns .least ∷ []) ≡ 0 ∷ 1 ∷ 2 ∷ 3 ∷ []
+lines-read : (names : List ℕ) (columns : ClusterColumns) → Placed 4 names clusterNames (clusterPlaces columns)
     → (steps : ℕ) (s : List ℕ) (at : ℕ) (t : Table) → Read (length s) at t (valueLines steps columns s at t)
 unfolding valueLines
-lines-read columns order zero s at t =
+lines-read names columns placed zero s at t =
     cond-cases (Read (length s) at t) (leb (length s) at) _ _ (λ h. omega (arith, leb-true (length s) at h)) (λ _. tt)
-lines-read columns order (suc steps) s at t =
-    let ih : (next : ℕ) (u : Table) → Read (length s) next u (valueLines steps columns s next u) = lines-read columns order steps s in
+lines-read names columns placed (suc steps) s at t =
+    let ih : (next : ℕ) (u : Table) → Read (length s) next u (valueLines steps columns s next u) = lines-read names columns placed steps s in
     cond-cases (Read (length s) at t) (leb (length s) at) _ _ (λ h. omega (arith, leb-true (length s) at h)) λ _.
     then-cases-line (Read (length s) at t) none (lineFrom 3 at (drop at s)) _ tt λ next e.
     then-cases-some (Read (length s) at t) none (valueLine columns (drop at s) t) _ tt λ u f.
     further at (next .at) t u (valueLines steps columns s (next .at) u)
     (let w : Adds (rowLength columns (drop at s)) t (some u) = subst (Adds (rowLength columns (drop at s)) t) f (value-line-adds columns (drop at s) t) in
-    omega (arith, line-bytes columns (drop at s) order at next e))
+    omega (arith, row-bytes names columns placed (drop at s) at next e))
     (ih (next .at) u)
   where
     further : (at next : ℕ) (t u : Table) (o : Option Table) → next + 37 * entries t ≤ at + 37 * entries u → Read (length s) next u o → Read (length s) at t o
@@ -183,26 +186,28 @@ entries-most last (c ∷ t) h =
     let r = rising-says last c t h in
     omega (arith, leb-true (length (c .needs)) needsMost (cluster-few-needs c (r .within)), entries-most (c .part) t (r .rest))
 
--- the names line has 28 bytes, in whichever order the names stand
+-- the names have 24 bytes, in whichever order they stand
+names-bytes : (s : List ℕ) {columns : ClusterColumns} → Placed 4 s clusterNames (clusterPlaces columns) → rowLength columns s ≡ 24
+names-bytes s (more c (more v (more n (more l nowhere)))) =
+    rw (column-cell 4 _ _ s c, column-cell 4 _ _ s v, column-cell 4 _ _ s n, column-cell 4 _ _ s l)
+
+-- so the names line has 28
 list-read : (s : List ℕ) → Read (length s) 28 [] (readList s)
 unfolding readList
 list-read s =
     then-cases-line (Read (length s) 28 []) none (lineFrom 3 0 s) _ tt λ next e.
     then-cases-cluster-columns (Read (length s) 28 []) none (clusterColumns 4 s) _ tt λ columns f.
-    let names : Columns s columns = subst (ColumnsOf s) f (columns-of s) in
+    let placed = cluster-placed 4 s columns f in
     let end : next .at ≡ 28 =
     omega (
       arith,
-      line-bytes columns s (names .order) 0 next e,
-      ap length (names .cluster-name),
-      ap length (names .version-name),
-      ap length (names .needs-name),
-      ap length (names .least-name),
+      row-bytes s columns placed s 0 next e,
+      names-bytes s placed,
     ) in
-    subst (λ (at : ℕ). Read (length s) at [] (valueLines (length s) columns s (next .at) [])) end (lines-read columns (names .order) (length s) s (next .at) [])
+    subst (λ (at : ℕ). Read (length s) at [] (valueLines (length s) columns s (next .at) [])) end (lines-read s columns placed (length s) s (next .at) [])
 
 -- 28 + 37 × 5 × 64
-pub read-most : (s : List ℕ) (t : Table) → readList s ≡ some t → length s ≤ 11868
+pub read-most : (s : List ℕ) (t : Table) → readList s ≡ some t → length s ≤ readListMost
 read-most s t e =
     let read : Read (length s) 28 [] (some t) = subst (Read (length s) 28 []) e (list-read s) in
     let within : tableWithin t ≡ true = readList-within s t e in

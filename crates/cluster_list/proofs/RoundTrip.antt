@@ -7,7 +7,7 @@ use mathlib.Core.List.{List, [], _∷_, _++_, append-assoc, append-nil}
 use mathlib.Core.Option.{Option, some}
 use native.Mathlib.Omega.{arith}
 use lib.Dec.{leb, ltb}
-use lib.ListN.{length, drop, getD, length-drop, length-append}
+use lib.ListN.{length, take, drop, getD, length-take, length-drop, length-append, take-append-drop}
 use borrow.Author.Tests.{le-leb, lt-leb, leb-true, ltb-true, le-ltb}
 use Rattle.base.proofs.Tests.{and-left, and-right, and-both}
 use Rattle.text.specs.declared.version.Version.{Version}
@@ -29,10 +29,11 @@ use Rattle.rows.proofs.NamesLine.{cluster-names-end, cluster-names-columns}
 use Rattle.clusters.specs.declared.cluster.Need.{Need}
 use Rattle.clusters.specs.Cluster.{Cluster, partWithin, needWithin, needsWithin, needsMost, clusterWithin}
 use Rattle.clusters.specs.Table.{Table, clustersMost, risingAbove, tableWithin}
+use Rattle.clusters.proofs.Limits.{rising-says, few-clusters, rising-clusters}
 use Rattle.cluster_list.specs.declared.cells.NeedRead.the-variants.{Filled, Empty}
 use Rattle.cluster_list.specs.Cells.{partField, needOf}
 use Rattle.cluster_list.specs.Read.{lastPart, withNeed, needAdded, clusterAdded, needLine, clusterBegun, clusterLine, valueLine, valueLines, readList}
-use Rattle.cluster_list.specs.Write.{namesLine, needLineText, needLinesText, clusterLines, clustersText, writeList}
+use Rattle.cluster_list.specs.Write.{namesLine, needCells, needLineText, needLinesText, clusterLines, clustersText, writeList}
 use Rattle.cluster_list.proofs.ThenLaws.{some-byte}
 use Rattle.cluster_list.proofs.Last.{last-part, need-added, cluster-added}
 
@@ -145,35 +146,62 @@ module _ (s : List ℕ) (front : Table) (rest : List ℕ) (r : Option Table) whe
 
 -- ---- the lines of a cluster
 
+-- the lines of a cluster with so many of its needs, one or none, on the cluster's line, and the others below
+unfoldable pub linesWith : ℕ → Cluster → List ℕ
+linesWith first c =
+    lineText (digits (c .part) ∷ versionText (c .version) ∷ needCells (take first (c .needs))) ++ needLinesText (drop first (c .needs))
+
+-- our writer puts the first there
+writer-lines : (c : Cluster) → clusterLines c ≡ linesWith 1 c
+unfolding clusterLines linesWith
+writer-lines c = go (c .needs)
+  where
+    go : (ns : List Need) → lineText (digits (c .part) ∷ versionText (c .version) ∷ needCells ns) ++ needLinesText (drop 1 ns)
+        ≡ lineText (digits (c .part) ∷ versionText (c .version) ∷ needCells (take 1 ns)) ++ needLinesText (drop 1 ns)
+    go [] = refl
+    go (n ∷ ns) = refl
+
+needs-parted : (k : ℕ) (ns : List Need) → needsWithin ns ≡ true → (needsWithin (take k ns) ≡ true) × (needsWithin (drop k ns) ≡ true)
+unfolding needsWithin
+needs-parted zero ns h = (refl, h)
+needs-parted (suc k) [] h = (refl, refl)
+needs-parted (suc k) (n ∷ ns) h =
+    let rest = needs-parted k ns (and-right (needWithin n) _ h) in
+    (and-both (needWithin n) _ (and-left (needWithin n) _ h) (rest .0), rest .1)
+
 module _ (s : List ℕ) (front : Table) (rest : List ℕ) (r : Option Table) (part : ℕ) (version : Version)
     (h : partWithin part ≡ true) (w : versionWithin version ≡ true) (few : length front < clustersMost) (above : lastPart front < part) where
-  cluster-back : (ns : List Need) → needsWithin ns ≡ true → length ns ≤ needsMost
-      → GoesOn s rest (front ++ record { part = part; version = version; needs = ns } ∷ []) r
-      → GoesOn s (clusterLines (record { part = part; version = version; needs = ns }) ++ rest) front r
-  unfolding needsWithin clusterLines needLinesText
-  cluster-back [] n o go at steps e f =
-      let e′ : drop at s ≡ lineText (digits part ∷ versionText version ∷ [] ∷ [] ∷ []) ++ rest = e ∙ rw append-nil in
-      let plain : plainFields (digits part ∷ versionText version ∷ [] ∷ [] ∷ []) ≡ true =
-      plain-line (digits part) (versionText version) [] [] (plain-digits part) (plain-version version) (each-nil fieldByte) (each-nil fieldByte) in
-      let there = cell-there s at (digits part) (versionText version) [] [] rest e′ plain in
-      line-step s at (digits part) (versionText version) [] [] rest e′ plain steps front _ r f
-      (bare-line-back (drop at s) front part version h w
-      (there 0 (omega arith)) (there 1 (omega arith)) (there 2 (omega arith)) (there 3 (omega arith))
-      ∙ cluster-added front _ few above)
-      go
-  cluster-back (n ∷ ns) v o go at steps e f =
-      let y = digits (n .part) in
-      let z = versionText (n .least) in
-      let e′ : drop at s ≡ lineText (digits part ∷ versionText version ∷ y ∷ z ∷ []) ++ (needLinesText ns ++ rest) =
-      e ∙ append-assoc (lineText (digits part ∷ versionText version ∷ y ∷ z ∷ [])) (needLinesText ns) rest in
+  abbrev cluster : List Need → Cluster
+  cluster ns = record { part = part; version = version; needs = ns }
+
+  -- a line with the fields y and z, which say the needs `on`, and the lines of the needs `below`
+  line-and-needs : (y z : List ℕ) (on below : List Need) → plainField y ≡ true → plainField z ≡ true
+      → ((l : List ℕ) → cell 0 l ≡ digits part → cell 1 l ≡ versionText version → cell 2 l ≡ y → cell 3 l ≡ z
+      → valueLine written l front ≡ clusterAdded front (cluster on))
+      → needsWithin below ≡ true → length on + length below ≤ needsMost → GoesOn s rest (front ++ cluster (on ++ below) ∷ []) r
+      → GoesOn s ((lineText (digits part ∷ versionText version ∷ y ∷ z ∷ []) ++ needLinesText below) ++ rest) front r
+  line-and-needs y z on below p q said n o go at steps e f =
+      let line = lineText (digits part ∷ versionText version ∷ y ∷ z ∷ []) in
+      let e′ : drop at s ≡ line ++ (needLinesText below ++ rest) = e ∙ append-assoc line (needLinesText below) rest in
       let plain : plainFields (digits part ∷ versionText version ∷ y ∷ z ∷ []) ≡ true =
-      plain-line (digits part) (versionText version) y z (plain-digits part) (plain-version version) (plain-digits (n .part)) (plain-version (n .least)) in
-      let there = cell-there s at (digits part) (versionText version) y z (needLinesText ns ++ rest) e′ plain in
-      line-step s at (digits part) (versionText version) y z (needLinesText ns ++ rest) e′ plain steps front _ r f
-      (cluster-line-back (drop at s) front part version h w (there 0 (omega arith)) (there 1 (omega arith))
-      n (and-left (needWithin n) _ v) (there 2 (omega arith)) (there 3 (omega arith))
+      plain-line (digits part) (versionText version) y z (plain-digits part) (plain-version version) p q in
+      let there = cell-there s at (digits part) (versionText version) y z (needLinesText below ++ rest) e′ plain in
+      line-step s at (digits part) (versionText version) y z (needLinesText below ++ rest) e′ plain steps front _ r f
+      (said (drop at s) (there 0 (omega arith)) (there 1 (omega arith)) (there 2 (omega arith)) (there 3 (omega arith))
       ∙ cluster-added front _ few above)
-      (needs-back s front rest r ns (record { part = part; version = version; needs = n ∷ [] }) (and-right (needWithin n) _ v) (omega arith) go)
+      (needs-back s front rest r below (cluster on) n o go)
+
+  cluster-back : (on below : List Need) → length on ≤ 1 → needsWithin on ≡ true → needsWithin below ≡ true → length on + length below ≤ needsMost
+      → GoesOn s rest (front ++ cluster (on ++ below) ∷ []) r
+      → GoesOn s ((lineText (digits part ∷ versionText version ∷ needCells on) ++ needLinesText below) ++ rest) front r
+  unfolding needsWithin
+  cluster-back [] below one v n o go =
+      line-and-needs [] [] [] below (each-nil fieldByte) (each-nil fieldByte)
+      (λ l e₀ e₁ e₂ e₃. bare-line-back l front part version h w e₀ e₁ e₂ e₃) n o go
+  cluster-back (m ∷ []) below one v n o go =
+      line-and-needs (digits (m .part)) (versionText (m .least)) (m ∷ []) below (plain-digits (m .part)) (plain-version (m .least))
+      (λ l e₀ e₁ e₂ e₃. cluster-line-back l front part version h w e₀ e₁ m (and-left (needWithin m) _ v) e₂ e₃) n o go
+  cluster-back (m ∷ k ∷ on) below one v n o go = absurd (omega arith)
 
 -- ---- the whole list
 
@@ -182,27 +210,45 @@ unfolding valueLines
 no-lines s at zero t h = rw (le-leb (length s) at h)
 no-lines s at (suc steps) t h = rw (le-leb (length s) at h)
 
-module _ (s : List ℕ) where
+-- the lines of the clusters, each with so many of its needs on its own line
+unfoldable pub tableWith : ℕ → Table → List ℕ
+tableWith first [] = []
+tableWith first (c ∷ t) = linesWith first c ++ tableWith first t
+
+pub writer-table : (t : Table) → clustersText t ≡ tableWith 1 t
+unfolding clustersText tableWith
+writer-table [] = refl
+writer-table (c ∷ t) = rw (writer-lines c, writer-table t)
+
+module _ (s : List ℕ) (first : ℕ) (one : first ≤ 1) where
   clusters-back : (t front : Table) → risingAbove (lastPart front) t ≡ true → length front + length t ≤ clustersMost
-      → GoesOn s (clustersText t) front (some (front ++ t))
-  unfolding clustersText risingAbove clusterWithin
+      → GoesOn s (tableWith first t) front (some (front ++ t))
+  unfolding tableWith linesWith clusterWithin
   clusters-back [] front h o =
       λ at steps e f. rw append-nil (no-lines s at steps front (omega (arith, ap length e, length-drop at s)))
   clusters-back (c ∷ t) front h o =
-      let within : clusterWithin c ≡ true = and-left (clusterWithin c) _ (and-right (ltb (lastPart front) (c .part)) _ h) in
-      let rising : risingAbove (c .part) t ≡ true = and-right (clusterWithin c) _ (and-right (ltb (lastPart front) (c .part)) _ h) in
+      let parts = rising-says (lastPart front) c t h in
+      let within = parts .within in
       let behind-part = and-right (partWithin (c .part)) _ within in
       let behind-version = and-right (versionWithin (c .version)) _ behind-part in
-      cluster-back s front (clustersText t) (some (front ++ c ∷ t)) (c .part) (c .version)
-      (and-left (partWithin (c .part)) _ within) (and-left (versionWithin (c .version)) _ behind-part)
-      (omega arith) (ltb-true _ _ (and-left (ltb (lastPart front) (c .part)) _ h))
-      (c .needs) (and-right (leb (length (c .needs)) needsMost) _ behind-version) (leb-true _ _ (and-left _ _ behind-version))
-      (rw append-assoc at (clusters-back t (front ++ c ∷ []) (rw last-part rising) (omega (arith, length-append front (c ∷ [])))))
+      let needs = needs-parted first (c .needs) (and-right (leb (length (c .needs)) needsMost) _ behind-version) in
+      let few : length (c .needs) ≤ needsMost = leb-true _ _ (and-left _ _ behind-version) in
+      cluster-back s front (tableWith first t) (some (front ++ c ∷ t)) (c .part) (c .version)
+      (and-left (partWithin (c .part)) _ within) (and-left (versionWithin (c .version)) _ behind-part) (omega arith) (parts .over)
+      (take first (c .needs)) (drop first (c .needs)) (rw length-take (omega arith)) (needs .0) (needs .1)
+      (rw (length-take, length-drop) (omega arith))
+      (rw take-append-drop (rw append-assoc at (clusters-back t (front ++ c ∷ []) (rw last-part (parts .rest)) (omega (arith, length-append front (c ∷ []))))))
+
+-- a list that has the lines of a table within the limits in either way is read as that table
+pub list-with-back : (first : ℕ) → first ≤ 1 → (t : Table) → tableWithin t ≡ true → readList (namesLine ++ tableWith first t) ≡ some t
+unfolding readList lineText lastPart
+list-with-back first one t h =
+    let s = namesLine ++ tableWith first t in
+    rw (cluster-names-end (tableWith first t) 0, cluster-names-columns (tableWith first t))
+    (clusters-back s first one t [] (rising-clusters t h) (omega (arith, few-clusters t h))
+    28 (length s) (drop-past s 0 namesLine (tableWith first t) refl) (omega arith))
 
 -- "for every table within the limits, reading what was written gives the same table"
 pub list-back : (t : Table) → tableWithin t ≡ true → readList (writeList t) ≡ some t
-unfolding readList writeList lineText lastPart tableWithin
-list-back t h =
-    rw (cluster-names-end (clustersText t) 0, cluster-names-columns (clustersText t))
-    (clusters-back (writeList t) t [] (and-right (leb (length t) clustersMost) _ h) (omega (arith, leb-true (length t) clustersMost (and-left _ _ h)))
-    28 (length (writeList t)) (drop-past (writeList t) 0 namesLine (clustersText t) refl) (omega arith))
+unfolding writeList
+list-back t h = rw (writer-table t) (list-with-back 1 (omega arith) t h)

@@ -88,6 +88,10 @@ readList s =
     andThenClusterColumns none (clusterColumns 4 s) λ columns.
     valueLines (length s) columns s next []
 
+-- how many bytes the longest list has that can be read: the names line of 28, and 64 clusters of five lines of 37 (proofs/Longest.antt)
+abbrev pub readListMost : ℕ
+readListMost = 11868
+
 -- what each case of the reader's answer says: the table beside it, or ill-formed
 abbrev pub answered : ListAnswer → TableStruct → Option Table
 answered WellFormed t = some (viewTable t)

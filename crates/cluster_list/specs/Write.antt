@@ -2,17 +2,17 @@
 use Prim.Native.Nat.{ℕ}
 use mathlib.Core.List.{List, [], _∷_, _++_}
 use lib.ListN.{drop}
-use Rattle.base.specs.Quoted.{bytes}
 use Rattle.text.specs.Digits.{digits}
 use Rattle.text.specs.Version.{versionText}
 use Rattle.rows.specs.Line.{lineText}
+use Rattle.rows.specs.Names.{clusterNames}
 use Rattle.clusters.specs.declared.cluster.Need.{Need}
 use Rattle.clusters.specs.Cluster.{Cluster}
 use Rattle.clusters.specs.Table.{Table}
 
 -- "the name order above"
 abbrev pub namesLine : List ℕ
-namesLine = lineText (bytes "cluster" ∷ bytes "version" ∷ bytes "needs" ∷ bytes "least" ∷ [])
+namesLine = lineText clusterNames
 
 -- the fields needs and least of a line: those of the first of the needs, if there is one
 abbrev pub needCells : List Need → List (List ℕ)
@@ -38,3 +38,7 @@ clustersText (c ∷ t) = clusterLines c ++ clustersText t
 -- a table as a list
 unfoldable pub writeList : Table → List ℕ
 writeList t = namesLine ++ clustersText t
+
+-- how many bytes the longest list has that is written: the names line of 28, and 64 clusters of 181 (proofs/Longest.antt)
+abbrev pub writtenListMost : ℕ
+writtenListMost = 11612

@@ -14,19 +14,6 @@ use text::version::Version;
 use text::write::put_number;
 use text::write::put_version;
 
-// A text as it is.
-pub fn put_bytes(buf: &mut [u8], at: usize, text: &[u8]) -> usize
-    requires { ⌜ at + length (now text) ≤ length (now buf) ⌝ }
-    ensures { λ r. ⌜ Put (now (buf .entry)) at (now (text .entry)) r (now (buf .exit)) ⌝ }
-{
-    let mut i = 0;
-    while i < text.len() {
-        buf[at + i] = text[i];
-        i += 1;
-    }
-    at + i
-}
-
 // A part number and a version, a comma between them, and a byte behind them.
 fn put_pair(buf: &mut [u8], at: usize, part: u32, version: Version, behind: u8) -> usize
     requires { ⌜ at + length (pairText part version behind) ≤ length (now buf) ⌝ }

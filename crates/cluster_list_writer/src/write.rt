@@ -7,9 +7,9 @@ ghost use Rattle.text.specs.Put.{Put};
 ghost use Rattle.clusters.specs.Table.{tableWithin};
 ghost use Rattle.clusters.specs.View.{viewTable};
 ghost use Rattle.cluster_list.specs.Write.{clustersText, writeList};
-use crate::put::put_bytes;
 use crate::put::put_cluster;
 use clusters::table::Table;
+use text::write::put_bytes;
 
 // The lines of the clusters.
 fn put_clusters(buf: &mut [u8], from: usize, t: Table) -> usize

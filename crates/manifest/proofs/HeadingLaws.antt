@@ -19,15 +19,6 @@ use Rattle.manifest.specs.declared.heading.FirstNeed.the-variants.{Fille
 use Rattle.manifest.specs.Package.{Heading, heading, clusterHeading, headingOf}
 use Rattle.manifest.specs.Found.{firstNeeds}
 
--- a conjunction that a definition tests
-pub both-stop : (a b : Bool) → a ≡ false → a && b ≡ false
-both-stop a b e = rw e
-
-pub both-on : (a b x : Bool) → a ≡ true → b ≡ x → a && b ≡ x
-both-on a b x e q = rw e q
-
-pub ruleset both = (both-stop, both-on)
-
 -- the code takes the change apart
 module _ (j k : Change) (e : j ≡ k) where
   pub heading-by : (x : Option Heading) (columns : PackageColumns) (l : List ℕ) (part count sum : ℕ)

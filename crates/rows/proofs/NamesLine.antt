@@ -12,15 +12,16 @@ use Rattle.rows.specs.declared.columns.PackageColumnsRead.the-variants a
 use Rattle.rows.specs.Field.{endsField, fieldByte, field, behindField, cell}
 use Rattle.rows.specs.Line.{lineFrom, lineText, plainFields}
 use Rattle.rows.specs.Columns.{columnFrom, clusterColumns, packageColumns}
+use Rattle.rows.specs.Names.{clusterNames, packageNames}
 use Rattle.rows.proofs.LineBack.{line-back}
-
--- "The names are `cluster`, `version`, `needs`, `least`"
-abbrev clusterNames : List (List ℕ)
-clusterNames = bytes "cluster" ∷ bytes "version" ∷ bytes "needs" ∷ bytes "least" ∷ []
 
 pub cluster-names-text : lineText clusterNames ≡ bytes "cluster,version,needs,least" ++ LF ∷ []
 unfolding lineText
 cluster-names-text = refl
+
+pub package-names-text : lineText packageNames ≡ bytes "action,cluster,version,payload,sum,needs,least" ++ LF ∷ []
+unfolding lineText
+package-names-text = refl
 
 module _ (rest : List ℕ) where
   pub cluster-names-end : (p : ℕ) → lineFrom 3 p (bytes "cluster,version,needs,least" ++ LF ∷ rest) ≡ Ends (cursor (p + 28))

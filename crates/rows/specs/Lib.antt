@@ -1,3 +1,4 @@
 pub mod Field
 pub mod Line
 pub mod Columns
+pub mod Names

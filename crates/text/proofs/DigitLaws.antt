@@ -1,12 +1,14 @@
 -- The digits of a number: two equations and an induction, by which every other proof goes, and how many they are. Assumes nothing.
-use Prim.Native.Nat.{ℕ, zero, suc, _+_, _*_, _/_, _%_, _≤_, _<_}
+use Prim.Native.Nat.{ℕ, zero, suc, _+_, _*_, _/_, _%_, _^_, _≤_, _<_}
 use mathlib.Core.Path.{_≡_, refl}
 use mathlib.Core.Bool.{Bool, true, false}
 use mathlib.Core.List.{[], _∷_, _++_}
 use native.Mathlib.Omega.{arith}
+use native.Mathlib.Nat.{one-le-pow}
 use lib.Dec.{ltb}
 use lib.ListN.{length, length-append}
 use borrow.Author.Tests.{lt-ltb, le-ltb, ltb-true, ltb-false}
+use Rattle.base.proofs.Tests.{bool-cases}
 use Rattle.text.specs.Digits.{digitsIn, digits}
 
 -- any number of steps from n up gives the same digits
@@ -52,35 +54,30 @@ length-small n h = rw (digits-small n h)
 pub length-large : (n : ℕ) → 10 ≤ n → length (digits n) ≡ length (digits (n / 10)) + 1
 length-large n h = rw (digits-large n h) (length-append (digits (n / 10)) _)
 
--- from numbers below b to numbers below b * 10
-length-below : (b j : ℕ) → 1 ≤ j → ((m : ℕ) → m < b → length (digits m) ≤ j) → (n : ℕ) → n < b * 10 → length (digits n) ≤ j + 1
-length-below b j o r n h = go (ltb n 10) refl
-  where
-    go : (t : Bool) → ltb n 10 ≡ t → length (digits n) ≤ j + 1
-    go true e = omega (arith, length-small n (ltb-true n 10 e))
-    go false e = omega (arith, length-large n (ltb-false n 10 e), r (n / 10) (omega arith))
-
-one-digit : (n : ℕ) → n < 10 → length (digits n) ≤ 1
-one-digit n h = omega (arith, length-small n h)
-
-pub five-digits : (n : ℕ) → n < 100000 → length (digits n) ≤ 5
-five-digits =
-    length-below 10000 4 (omega arith)
-    (length-below 1000 3 (omega arith) (length-below 100 2 (omega arith) (length-below 10 1 (omega arith) one-digit)))
-
--- a number that fits a u32 has at most ten digits
-pub ten-digits : (n : ℕ) → n ≤ 4294967295 → length (digits n) ≤ 10
-ten-digits n h =
-    length-below 1000000000 9 (omega arith)
-    (length-below 100000000 8 (omega arith)
-    (length-below 10000000 7 (omega arith)
-    (length-below 1000000 6 (omega arith) (length-below 100000 5 (omega arith) five-digits))))
-    n
-    (omega arith)
-
 -- no number has an empty text
 pub some-digit : (n : ℕ) → 1 ≤ length (digits n)
 some-digit = digits-induction _ (λ n h. omega (arith, length-small n h)) (λ n h r. omega (arith, length-large n h))
+
+-- numbers below a power of ten, and from a power of ten on
+pub digits-below : (k n : ℕ) → n < 10 ^ suc k → length (digits n) ≤ suc k
+digits-below zero n h = omega (arith, length-small n h)
+digits-below (suc k) n h =
+    bool-cases (ltb n 10)
+    (λ e. omega (arith, length-small n (ltb-true n 10 e)))
+    (λ e. omega (arith, length-large n (ltb-false n 10 e), digits-below k (n / 10) (omega arith)))
+
+pub digits-from : (k n : ℕ) → 10 ^ k ≤ n → suc k ≤ length (digits n)
+digits-from zero n h = some-digit n
+digits-from (suc k) n h =
+    let some : 1 ≤ 10 ^ k = one-le-pow k 10 (omega arith) in
+    omega (arith, length-large n (omega arith), digits-from k (n / 10) (omega arith))
+
+pub five-digits : (n : ℕ) → n < 100000 → length (digits n) ≤ 5
+five-digits n h = digits-below 4 n h
+
+-- a number that fits a u32 has at most ten digits
+pub ten-digits : (n : ℕ) → n ≤ 4294967295 → length (digits n) ≤ 10
+ten-digits n h = digits-below 9 n (omega arith)
 
 -- the same of a count of digits that a call gave
 pub few-digits : (n r : ℕ) → n ≤ 4294967295 → r ≡ length (digits n) → r ≤ 10

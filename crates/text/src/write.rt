@@ -10,6 +10,19 @@ ghost use Rattle.text.specs.Version.{versionText};
 ghost use Rattle.text.specs.Put.{Put};
 use crate::version::Version;
 
+// A text as it is.
+pub fn put_bytes(buf: &mut [u8], at: usize, text: &[u8]) -> usize
+    requires { ⌜ at + length (now text) ≤ length (now buf) ⌝ }
+    ensures { λ r. ⌜ Put (now (buf .entry)) at (now (text .entry)) r (now (buf .exit)) ⌝ }
+{
+    let mut i = 0;
+    while i < text.len() {
+        buf[at + i] = text[i];
+        i += 1;
+    }
+    at + i
+}
+
 // How many digits n has.
 pub fn number_length(n: u32) -> usize
     ensures { λ r. ⌜ r ≡ length (digits n) ⌝ }

@@ -1,5 +1,5 @@
 -- `cluster_list_writer::put::put_cluster` meets its contract: three texts put one behind the other, each with its room. Assumes nothing.
-use Rattle.cluster_list_writer.proofs.Putting.{room-pair, room-first-need, room-need-lines, cluster-put}
+use Rattle.cluster_list_writer.proofs.PutParts.{room-pair, room-first-need, room-need-lines, cluster-put}
 use borrow.Author.Needs.{needs}
 use Rattle.cluster_list_writer.proofs.put.put_cluster.Statement.{statement}
 use Rattle.cluster_list_writer.proofs.put.put_cluster.Tie as tie

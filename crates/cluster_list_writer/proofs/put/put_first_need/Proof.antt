@@ -8,7 +8,7 @@ use Rattle.base.proofs.Counted.{unmapped}
 use Rattle.rows.specs.Line.{lineText}
 use Rattle.clusters.specs.View.{noNeed, viewCluster}
 use Rattle.cluster_list.specs.Write.{needCells}
-use Rattle.cluster_list_writer.proofs.Putting.{no-need-put}
+use Rattle.cluster_list_writer.proofs.PutParts.{no-need-put}
 use Rattle.cluster_list_writer.proofs.Texts.{no-first-cells, first-cells}
 use borrow.Author.Needs.{needs}
 use Rattle.cluster_list_writer.proofs.put.put_first_need.Statement.{statement}

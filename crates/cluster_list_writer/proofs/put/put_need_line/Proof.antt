@@ -1,6 +1,6 @@
 -- `cluster_list_writer::put::put_need_line` meets its contract: two commas, and the fields behind them. Assumes nothing.
 use Rattle.text.proofs.PutLaws.{put-length}
-use Rattle.cluster_list_writer.proofs.Putting.{room-first-comma, room-second-comma, room-need, need-line-put}
+use Rattle.cluster_list_writer.proofs.PutParts.{room-first-comma, room-second-comma, room-need, need-line-put}
 use borrow.Author.Needs.{needs}
 use Rattle.cluster_list_writer.proofs.put.put_need_line.Statement.{statement}
 use Rattle.cluster_list_writer.proofs.put.put_need_line.Tie as tie

@@ -10,7 +10,7 @@ use Rattle.base.proofs.Counted.{unmapped}
 use Rattle.clusters.specs.View.{noNeed, viewCluster}
 use Rattle.cluster_list.specs.Write.{needLineText, needLinesText}
 use Rattle.cluster_list_writer.proofs.Texts.{needs-left, needs-over}
-use Rattle.cluster_list_writer.proofs.Putting.{Putting, putting-begins, putting-room, putting-on, putting-done}
+use Rattle.text.proofs.Putting.{Putting, putting-begins, putting-room, putting-on, putting-done}
 use Rattle.cluster_list_writer.proofs.put.put_need_lines.Statement.{statement}
 use Rattle.cluster_list_writer.proofs.put.put_need_lines.Tie as tie
 

@@ -1,7 +1,7 @@
 -- `cluster_list_writer::put::put_pair` meets its contract: each part put behind the one before, with its room. Assumes nothing.
 use native.Mathlib.Omega.{arith}
 use Rattle.text.proofs.PutLaws.{put-length}
-use Rattle.cluster_list_writer.proofs.Putting.{room-part, room-comma, room-version, room-behind, pair-put}
+use Rattle.cluster_list_writer.proofs.PutParts.{room-part, room-comma, room-version, room-behind, pair-put}
 use Rattle.cluster_list_writer.proofs.put.put_pair.Statement.{statement}
 use Rattle.cluster_list_writer.proofs.put.put_pair.Tie as tie
 

@@ -11,7 +11,7 @@ use Rattle.clusters.specs.View.{noCluster, viewCluster, viewTable}
 use Rattle.clusters.proofs.Views.{few-of-within, few-needs-at}
 use Rattle.cluster_list.specs.Write.{clusterLines, clustersText}
 use Rattle.cluster_list_writer.proofs.Texts.{clusters-left, clusters-over}
-use Rattle.cluster_list_writer.proofs.Putting.{Putting, putting-begins, putting-room, putting-on, putting-done}
+use Rattle.text.proofs.Putting.{Putting, putting-begins, putting-room, putting-on, putting-done}
 use Rattle.cluster_list_writer.proofs.write.put_clusters.Statement.{statement}
 use Rattle.cluster_list_writer.proofs.write.put_clusters.Tie as tie
 

@@ -1,6 +1,6 @@
 -- `cluster_list_writer::write::write_list` meets its contract: the names line, and the clusters behind it. Assumes nothing.
 use Rattle.rows.specs.Line.{lineText}
-use Rattle.cluster_list_writer.proofs.Putting.{room-names, room-clusters, list-put}
+use Rattle.cluster_list_writer.proofs.PutParts.{room-names, room-clusters, list-put}
 use borrow.Author.Needs.{needs}
 use Rattle.cluster_list_writer.proofs.write.write_list.Statement.{statement}
 use Rattle.cluster_list_writer.proofs.write.write_list.Tie as tie

@@ -1,8 +1,8 @@
 -- `manifest::heading::remove_heading` meets its contract: the empty fields, then the payload 0. Assumes nothing.
 use borrow.Author.Needs.{needs}
-use Rattle.base.proofs.Ladder.{told-ladder}
+use Rattle.base.proofs.Ladder.{told-ladder, both}
 use Rattle.manifest.specs.Package.{removeHeading}
-use Rattle.manifest.proofs.HeadingLaws.{both, same-heading}
+use Rattle.manifest.proofs.HeadingLaws.{same-heading}
 use Rattle.manifest.proofs.heading.remove_heading.Statement.{statement}
 use Rattle.manifest.proofs.heading.remove_heading.Tie as tie
 

@@ -1,7 +1,7 @@
 -- `manifest::lines::only_need` meets its contract: the empty fields, then the need, which is filled. Assumes nothing.
 use borrow.Author.Needs.{needs}
+use Rattle.base.proofs.Ladder.{both}
 use Rattle.manifest.specs.Package.{onlyNeed}
-use Rattle.manifest.proofs.HeadingLaws.{both}
 use Rattle.cluster_list.proofs.ThenLaws.{need-chain}
 use Rattle.base.proofs.Ladder.{told-ladder}
 use Rattle.manifest.proofs.lines.only_need.Statement.{statement}

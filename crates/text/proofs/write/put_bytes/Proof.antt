@@ -1,11 +1,11 @@
--- `cluster_list_writer::put::put_bytes` meets its contract. The loop's invariant: with the bytes from i on put from at + i on, the
+-- `text::write::put_bytes` meets its contract. The loop's invariant: with the bytes from i on put from at + i on, the
 -- whole text stands. The measure is the bytes left. Assumes nothing.
 use Prim.Native.Nat.{_+_, _-_, _≤_}
 use native.Mathlib.Omega.{arith}
 use lib.ListN.{length, drop}
-use Rattle.cluster_list_writer.proofs.Putting.{Putting, bytes-begin, bytes-on, bytes-done}
-use Rattle.cluster_list_writer.proofs.put.put_bytes.Statement.{statement}
-use Rattle.cluster_list_writer.proofs.put.put_bytes.Tie as tie
+use Rattle.text.proofs.Putting.{Putting, bytes-begin, bytes-on, bytes-done}
+use Rattle.text.proofs.write.put_bytes.Statement.{statement}
+use Rattle.text.proofs.write.put_bytes.Tie as tie
 
 abbrev Inv-loop : tie.InvT-loop
 Inv-loop buf₀ at text i₀ buf i = (i ≤ length text) × Putting buf₀ at text buf (at + i) (drop i text)

@@ -1,0 +1,22 @@
+// How long a list can be. The constants are for buffers, the functions say that they are the numbers of the definitions.
+ghost use mathlib.Core.Path.{_≡_};
+ghost use Rattle.cluster_list.specs.Read.{readListMost};
+ghost use Rattle.cluster_list.specs.Write.{writtenListMost};
+
+// The bytes of the longest list that is written: the one place in the code that has this number.
+pub const WRITTEN_LIST_MOST: usize = 11612;
+
+// The bytes of the longest list that can be read: the one place in the code that has this number.
+pub const READ_LIST_MOST: usize = 11868;
+
+pub fn longest_written() -> usize
+    ensures { λ r. ⌜ r ≡ writtenListMost ⌝ }
+{
+    WRITTEN_LIST_MOST
+}
+
+pub fn longest_read() -> usize
+    ensures { λ r. ⌜ r ≡ readListMost ⌝ }
+{
+    READ_LIST_MOST
+}

@@ -1,0 +1,163 @@
+-- "each once, in any order": a names line with as many fields as there are names, and each name among them, has each name exactly once
+-- and no other. Stated over the names; the four of a cluster list and the seven of a package follow. Assumes nothing.
+use Prim.Native.Nat.{ℕ, zero, suc, _+_, _≤_}
+use mathlib.Core.Path.{_≡_, refl, sym, ap, subst, _∙_}
+use mathlib.Core.Bool.{Bool, true, cond, _&&_}
+use mathlib.Core.List.{List, [], _∷_}
+use native.Mathlib.Omega.{arith}
+use lib.Dec.{eqb}
+use lib.ListN.{length}
+use borrow.Author.Tests.{eqb-true}
+use Rattle.base.specs.Quoted.{bytes}
+use Rattle.base.proofs.Tests.{and-left, and-right, bool-cases}
+use Rattle.text.specs.Word.{sameBytes}
+use Rattle.text.proofs.WordLaws.{same-bytes-self}
+use Rattle.rows.specs.declared.columns.Column.the-variants.{At}
+use Rattle.rows.specs.declared.columns.ClusterColumns.{ClusterColumns}
+use Rattle.rows.specs.declared.columns.ClusterColumnsRead.{ClusterColumnsRead}
+use Rattle.rows.specs.declared.columns.ClusterColumnsRead.the-variants as cluster-read
+use Rattle.rows.specs.declared.columns.PackageColumns.{PackageColumns}
+use Rattle.rows.specs.declared.columns.PackageColumnsRead.{PackageColumnsRead}
+use Rattle.rows.specs.declared.columns.PackageColumnsRead.the-variants as package-read
+use Rattle.rows.specs.Field.{behindField, cell}
+use Rattle.rows.specs.Columns.{columnFrom, clusterColumns, packageColumns}
+use Rattle.rows.specs.Names.{clusterNames, packageNames, timesNamed, EachOnce}
+use Rattle.rows.proofs.ColumnMeaning.{column-below, column-cell}
+use Rattle.rows.proofs.ThenLaws.{then-cases-column, then-cases-cluster-columns}
+use Rattle.rows.proofs.Totals.{totalOf, totalBelow, markAt, NoneTwice, EachBelow, all-places}
+
+-- how often a name is in a list of names
+unfoldable pub timesIn : List ℕ → List (List ℕ) → ℕ
+timesIn name [] = 0
+timesIn name (other ∷ names) = cond (sameBytes other name) 1 0 + timesIn name names
+
+-- no name is twice in the list
+unfoldable pub different : List (List ℕ) → Bool
+different [] = true
+different (name ∷ names) = eqb (timesIn name names) 0 && different names
+
+-- the columns of names, each found among so many fields of a line
+pub data Placed (fields : ℕ) (l : List ℕ) : List (List ℕ) → List ℕ → Type 0 where
+  none : Placed fields l [] []
+  more : {name : List ℕ} {k : ℕ} {names : List (List ℕ)} {ks : List ℕ} → columnFrom fields 0 name l ≡ At k → Placed fields l names ks
+      → Placed fields l (name ∷ names) (k ∷ ks)
+
+module _ {fields : ℕ} {l : List ℕ} where
+  placed-below : {names : List (List ℕ)} {ks : List ℕ} → Placed fields l names ks → EachBelow fields ks
+  placed-below none = tt
+  placed-below (more {name = name} {k = k} e rest) = (column-below fields k name l e, placed-below rest)
+
+  placed-count : {names : List (List ℕ)} {ks : List ℕ} → Placed fields l names ks → totalOf (λ _. 1) ks ≡ length names
+  placed-count none = refl
+  placed-count (more e rest) = omega (arith, placed-count rest)
+
+  -- a column is found at most as often as its name
+  column-times : (k : ℕ) {names : List (List ℕ)} {ks : List ℕ} → Placed fields l names ks → totalOf (markAt k) ks ≤ timesIn (cell k l) names
+  unfolding timesIn
+  column-times k none = omega arith
+  column-times k (more {name = other} {k = j} e rest) =
+      bool-cases (eqb k j)
+      (λ t. let same : sameBytes other (cell k l) ≡ true =
+      rw (eqb-true k j t, column-cell fields j other l e) (same-bytes-self other) in
+      rw (t, same) (omega (arith, column-times k rest)))
+      (λ t. rw t (omega (arith, column-times k rest)))
+
+  placed-none-twice : {names : List (List ℕ)} {ks : List ℕ} → Placed fields l names ks → different names ≡ true → NoneTwice ks
+  unfolding different
+  placed-none-twice none h = tt
+  placed-none-twice (more {name = name} {k = k} {names = names} e rest) h =
+      let zero-times : timesIn name names ≡ 0 = eqb-true _ _ (and-left _ (different names) h) in
+      (omega (arith, rw (column-cell fields k name l e) at (column-times k rest)), placed-none-twice rest (and-right (eqb (timesIn name names) 0) _ h))
+
+  placed-times : (name : List ℕ) {names : List (List ℕ)} {ks : List ℕ} → Placed fields l names ks
+      → totalOf (λ k. cond (sameBytes (cell k l) name) 1 0) ks ≡ timesIn name names
+  unfolding timesIn
+  placed-times name none = refl
+  placed-times name (more {name = other} {k = k} e rest) = rw (column-cell fields k other l e, placed-times name rest)
+
+times-below : (fields : ℕ) (name l : List ℕ) → timesNamed fields name l ≡ totalBelow fields (λ k. cond (sameBytes (cell k l) name) 1 0)
+unfolding timesNamed cell
+times-below zero name l = refl
+times-below (suc fields) name l = rw (times-below fields name (behindField l))
+
+module _ {l : List ℕ} {names : List (List ℕ)} {ks : List ℕ} (found : Placed (length names) l names ks) (apart : different names ≡ true) where
+  -- the columns are all of the line's fields
+  pub all-columns : (f : ℕ → ℕ) → totalOf f ks ≡ totalBelow (length names) f
+  all-columns = all-places (length names) ks (placed-count found) (placed-below found) (placed-none-twice found apart)
+
+  -- a name stands in the line as often as it is in the list of names
+  pub as-often : (name : List ℕ) → timesNamed (length names) name l ≡ timesIn name names
+  as-often name = times-below (length names) name l ∙ sym (all-columns _) ∙ placed-times name found
+
+-- ---- the four names of a cluster list, among so many fields
+
+abbrev pub clusterPlaces : ClusterColumns → List ℕ
+clusterPlaces c = c .cluster ∷ c .version ∷ c .needs ∷ c .least ∷ []
+
+abbrev ClusterPlaced : ℕ → List ℕ → ClusterColumnsRead → Type 0
+ClusterPlaced fields l (cluster-read.Named c) = Placed fields l clusterNames (clusterPlaces c)
+ClusterPlaced fields l cluster-read.IllFormed = Unit {0}
+
+cluster-columns-placed : (fields : ℕ) (l : List ℕ) → ClusterPlaced fields l (clusterColumns fields l)
+unfolding clusterColumns
+cluster-columns-placed fields l =
+    then-cases-column (ClusterPlaced fields l) cluster-read.IllFormed (columnFrom fields 0 (bytes "cluster") l) _ tt λ cluster e₁.
+    then-cases-column (ClusterPlaced fields l) cluster-read.IllFormed (columnFrom fields 0 (bytes "version") l) _ tt λ version e₂.
+    then-cases-column (ClusterPlaced fields l) cluster-read.IllFormed (columnFrom fields 0 (bytes "needs") l) _ tt λ needs e₃.
+    then-cases-column (ClusterPlaced fields l) cluster-read.IllFormed (columnFrom fields 0 (bytes "least") l) _ tt λ least e₄.
+    more e₁ (more e₂ (more e₃ (more e₄ none)))
+
+pub cluster-placed : (fields : ℕ) (l : List ℕ) (c : ClusterColumns) → clusterColumns fields l ≡ cluster-read.Named c → Placed fields l clusterNames (clusterPlaces c)
+cluster-placed fields l c e = subst (ClusterPlaced fields l) e (cluster-columns-placed fields l)
+
+pub cluster-names-differ : different clusterNames ≡ true
+unfolding different timesIn sameBytes
+cluster-names-differ = refl
+
+-- "each once, in any order"
+pub cluster-names-once : (l : List ℕ) (c : ClusterColumns) → clusterColumns 4 l ≡ cluster-read.Named c → EachOnce 4 l clusterNames
+unfolding timesIn sameBytes
+cluster-names-once l c e =
+    let often = as-often (cluster-placed 4 l c e) cluster-names-differ in
+    (often (bytes "cluster"), (often (bytes "version"), (often (bytes "needs"), (often (bytes "least"), tt))))
+
+-- ---- the seven names of a package
+
+abbrev PackagePlaced : List ℕ → PackageColumnsRead → Type 0
+PackagePlaced l (package-read.Named c) = Placed 7 l packageNames
+    (c .action ∷ c .«cluster_columns» .cluster ∷ c .«cluster_columns» .version ∷ c .payload ∷ c .sum ∷ c .«cluster_columns» .needs ∷ c .«cluster_columns» .least ∷ [])
+PackagePlaced l package-read.IllFormed = Unit {0}
+
+package-placed : (l : List ℕ) → PackagePlaced l (packageColumns 7 l)
+unfolding packageColumns
+package-placed l =
+    then-cases-cluster-columns (PackagePlaced l) package-read.IllFormed (clusterColumns 7 l) _ tt λ c e.
+    then-cases-column (PackagePlaced l) package-read.IllFormed (columnFrom 7 0 (bytes "action") l) _ tt λ action e₁.
+    then-cases-column (PackagePlaced l) package-read.IllFormed (columnFrom 7 0 (bytes "payload") l) _ tt λ payload e₂.
+    then-cases-column (PackagePlaced l) package-read.IllFormed (columnFrom 7 0 (bytes "sum") l) _ tt λ sum e₃.
+    among e₁ e₂ e₃ (cluster-placed 7 l c e)
+  where
+    among : {action payload sum cluster version needs least : ℕ} → columnFrom 7 0 (bytes "action") l ≡ At action → columnFrom 7 0 (bytes "payload") l ≡ At payload
+        → columnFrom 7 0 (bytes "sum") l ≡ At sum → Placed 7 l clusterNames (cluster ∷ version ∷ needs ∷ least ∷ [])
+        → Placed 7 l packageNames (action ∷ cluster ∷ version ∷ payload ∷ sum ∷ needs ∷ least ∷ [])
+    among a p s (more c (more v (more n (more least rest)))) = more a (more c (more v (more p (more s (more n (more least none))))))
+
+pub package-names-once : (l : List ℕ) (c : PackageColumns) → packageColumns 7 l ≡ package-read.Named c → EachOnce 7 l packageNames
+unfolding different timesIn sameBytes
+package-names-once l c e =
+    let often = as-often (subst (PackagePlaced l) e (package-placed l)) refl in (
+      often (bytes "action"),
+      (
+        often (bytes "cluster"),
+        (
+          often (bytes "version"),
+          (
+            often (bytes "payload"),
+            (
+              often (bytes "sum"),
+              (often (bytes "needs"), (often (bytes "least"), tt)),
+            ),
+          ),
+        ),
+      ),
+    )

@@ -1,0 +1,34 @@
+-- The names of both formats, and how often a name stands in a line: what the laws of proofs/NamesOnce.antt say of a names line.
+use Prim.Native.Nat.{ℕ, zero, suc, _+_}
+use mathlib.Core.Bool.{cond}
+use mathlib.Core.List.{List, [], _∷_}
+use mathlib.Core.Path.{_≡_}
+use Rattle.base.specs.Quoted.{bytes}
+use Rattle.text.specs.Word.{sameBytes}
+use Rattle.rows.specs.Field.{field, behindField}
+
+-- "The names are `cluster`, `version`, `needs`, `least`"
+abbrev pub clusterNames : List (List ℕ)
+clusterNames = bytes "cluster" ∷ bytes "version" ∷ bytes "needs" ∷ bytes "least" ∷ []
+
+-- "a names line of `action`, `cluster`, `version`, `payload`, `sum`, `needs`, `least`"
+abbrev pub packageNames : List (List ℕ)
+packageNames =
+    bytes "action"
+    ∷ bytes "cluster"
+    ∷ bytes "version"
+    ∷ bytes "payload"
+    ∷ bytes "sum"
+    ∷ bytes "needs"
+    ∷ bytes "least"
+    ∷ []
+
+-- how many of the given number of fields that a text begins with are the name
+unfoldable pub timesNamed : ℕ → List ℕ → List ℕ → ℕ
+timesNamed zero name l = 0
+timesNamed (suc fields) name l = cond (sameBytes (field l) name) 1 0 + timesNamed fields name (behindField l)
+
+-- each of these names is exactly one of the fields
+abbrev pub EachOnce : ℕ → List ℕ → List (List ℕ) → Type 0
+EachOnce fields l [] = Unit {0}
+EachOnce fields l (name ∷ names) = (timesNamed fields name l ≡ 1) × EachOnce fields l names

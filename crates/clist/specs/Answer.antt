@@ -1,23 +1,28 @@
 -- "Program `clist` loads a list from standard input with id 1 and prints ClusterInfo, or `refused 20` and LF."
 use Prim.Native.Nat.{ℕ}
-use mathlib.Core.Bool.{cond}
+use mathlib.Core.Path.{_≡_}
 use mathlib.Core.List.{List, [], _∷_, _++_}
-use mathlib.Core.Option.{Option, none, some}
-use lib.Dec.{ltb}
-use lib.ListN.{length}
+use lib.ListN.{take}
 use Rattle.base.specs.Quoted.{bytes, LF}
-use Rattle.clusters.specs.Table.{Table}
-use Rattle.cluster_list.specs.Read.{readList}
-use Rattle.cluster_list.specs.Write.{writeList}
+use Rattle.text.specs.Digits.{digits}
+use Rattle.model.specs.State.{State}
+use Rattle.model.specs.Calls.{Reply, refused, accepted}
+use Rattle.model.specs.Load.{load}
+use Rattle.model.specs.Reading.{clusterInfo}
 
--- "`refused 20` and LF"
-abbrev pub refusal : List ℕ
-refusal = bytes "refused 20" ++ LF ∷ []
+-- "prints ClusterInfo, or `refused 20` and LF": by Load's reply and the state that it gives. Load's only refusal is 20
+abbrev pub printed : Reply → State → List ℕ
+printed (refused number) s = bytes "refused " ++ (digits number ++ LF ∷ [])
+printed (accepted answer) s = clusterInfo s
 
-abbrev pub printed : Option Table → List ℕ
-printed none = refusal
-printed (some table) = writeList table
+-- "with id 1": the first transfer id
+abbrev pub firstId : ℕ
+firstId = 1
 
--- an input of more than 16,384 bytes is refused unread: no list is as long
-unfoldable pub answerTo : List ℕ → List ℕ
-answerTo input = cond (ltb 16384 (length input)) refusal (printed (readList input))
+-- "loads a list from standard input": Load of the whole input, with a store of no bytes and whatever state is given
+unfoldable pub answerTo : State → List ℕ → List ℕ
+answerTo given input = printed (load given input firstId [] .reply) (load given input firstId [] .state)
+
+-- reading stops where the input ends or the buffer is full: what was read of an input into a buffer of that many bytes
+abbrev pub ReadInto : ℕ → List ℕ → List ℕ → Type 0
+ReadInto room input read = read ≡ take room input

@@ -1,25 +1,7 @@
-// A case: fields that each end in `;`, the first of which is its kind. A field has any other bytes, LF among them, and begins with
-// no LF: LF behind `;` ends the case.
-ghost use Prim.Native.Nat.{_≤_, _<_};
+// A case begins with `#` and has fields that each end in `;`. The first is a sentence, which is printed with a further field for each
+// `%` and says of which kind the case is; the answer is printed behind it. A field has any bytes but `#` and `;`, LF among them.
+ghost use Prim.Native.Nat.{_≤_};
 ghost use lib.ListN.{length};
-
-// The end of the case that begins at a position: the first LF behind `;`, or the end of the input. `main` gives a position within
-// the input.
-pub fn case_end(input: &[u8], from: usize) -> usize
-    requires { ⌜ from < length (now input) ⌝ }
-    ensures { λ r. ⌜ (from ≤ r) × (r ≤ length (now (input .entry))) ⌝ }
-{
-    let mut i = from + 1;
-    while i < input.len() {
-        if input[i] == b'\n' {
-            if input[i - 1] == b';' {
-                return i;
-            }
-        }
-        i += 1;
-    }
-    i
-}
 
 // Where field number k of a case begins, counted from 0; the end where there is none.
 fn field_start(case: &[u8], k: usize) -> usize
@@ -39,7 +21,7 @@ fn field_start(case: &[u8], k: usize) -> usize
     i
 }
 
-// Field number k of a case, counted from 0; no bytes where there is none.
+// Field number k of a case, counted from 0.
 pub fn field(case: &[u8], k: usize) -> &[u8] {
     let from = field_start(case, k);
     let to = bytes::scan::find(case, from, case.len(), b';');

@@ -15,11 +15,9 @@ use text::version::Version;
 
 // Whether a version is above another.
 pub fn compare(case: &[u8]) {
-    show::with_fields(b"% above %: ", case);
     let v = version_of(field(case, 1));
     let w = version_of(field(case, 2));
     show::yes_or_no(above(v, w));
-    show::byte(b'\n');
 }
 
 // Whether a table that holds cluster 20 alone, at a version, meets a need.
@@ -30,23 +28,14 @@ fn is_met(part: u32, least: Version, held: Version) -> bool {
 
 // The need of a part number at a least version, in a table that holds cluster 20 at a version.
 pub fn need(case: &[u8]) {
-    show::with_fields(b"need of % at %, 20 at %: ", case);
     let part = number_of(field(case, 1));
     let least = version_of(field(case, 2));
     let held = version_of(field(case, 3));
     show::yes_or_no(is_met(part, least, held));
-    show::byte(b'\n');
 }
 
-// Whether the table that a list says meets all its needs.
-fn list_met(list: &[u8]) -> bool {
-    let read = read_list(list);
-    needs_met(read.table)
-}
-
-// All needs of a table: what the case is of, and the list that says the table.
+// Whether the table that a list says meets all its needs. The fields before the list say in words what is in it.
 pub fn needs(case: &[u8]) {
-    show::with_fields(b"%: ", case);
-    show::yes_or_no(list_met(field(case, 2)));
-    show::byte(b'\n');
+    let read = read_list(field(case, 3));
+    show::yes_or_no(needs_met(read.table));
 }

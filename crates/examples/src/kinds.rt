@@ -8,17 +8,28 @@ use crate::packages;
 use crate::show;
 use crate::sums;
 use crate::versions;
-use rows::columns::Column;
-use rows::columns::column_of;
-use text::cursor::Cursor;
+use text::word::is_word;
 
-// A case, by the place of its kind among the kinds.
+// The place of a sentence among the ten sentences, or 10.
+fn place_of(sentence: &[u8], sentences: &[u8]) -> usize {
+    let mut k = 0;
+    while k < 10 {
+        if is_word(field(sentences, k), sentence) {
+            return k;
+        }
+        k += 1;
+    }
+    k
+}
+
+// A case, by its sentence.
 pub fn show_case(case: &[u8]) {
-    let kinds = b"number,written number,version,sum,above,need,needs met,actions,list,package";
-    let Column::At(kind) = column_of(kinds, Cursor { at: 0 }, 10, field(case, 0)) else {
-        show::bytes(b"no such kind of case\n");
-        return;
-    };
+    let sentence = field(case, 0);
+    show::with_fields(sentence, case);
+    let kind = place_of(
+        sentence,
+        b"number `%` up to %:;number written in;version `%`:;sum of `%` and `%`:;% above %:;need of % at %, 20 at %:;% needs %:;% %:;list, %:;package, %:;",
+    );
     match kind {
         0 => numbers::read(case),
         1 => numbers::write(case),
@@ -27,8 +38,9 @@ pub fn show_case(case: &[u8]) {
         4 => comparisons::compare(case),
         5 => comparisons::need(case),
         6 => comparisons::needs(case),
-        7 => actions::actions(case),
+        7 => actions::action(case),
         8 => lists::list(case),
-        _ => packages::package(case),
+        9 => packages::package(case),
+        _ => show::bytes(b" no such kind of case\n"),
     }
 }

@@ -12,14 +12,14 @@ mod sums;
 mod values;
 mod versions;
 
-use crate::case::case_end;
 use crate::kinds::show_case;
 use libc::STDIN_FILENO;
 
+// Each case, from behind its `#` to the next.
 fn show_cases(input: &[u8]) {
-    let mut at = 0;
+    let mut at = 1;
     while at < input.len() {
-        let end = case_end(input, at);
+        let end = bytes::scan::find(input, at, input.len(), b'#');
         show_case(&input[at..end]);
         if input.len() <= end {
             return;

@@ -9,14 +9,12 @@ use text::write::put_number;
 
 // A number read: the text, and the most that the number may be.
 pub fn read(case: &[u8]) {
-    show::with_fields(b"number `%` up to %: ", case);
     let most = number_of(field(case, 2));
     let read = whole_number(field(case, 1), most);
     match read {
-        Number::Value(value, _) => show::number(value),
+        Number::Value(value, _) => show::value(value),
         Number::IllFormed => show::ill_formed(),
     }
-    show::byte(b'\n');
 }
 
 // A number written in a buffer of dashes, which shows the bytes before and behind its digits.
@@ -29,9 +27,9 @@ fn show_written(n: u32) {
 // A number written, and how many bytes that takes.
 pub fn write(case: &[u8]) {
     let n = number_of(field(case, 1));
-    show::bytes(b"number written in ");
-    show::count(number_length(n));
-    show::bytes(b" bytes: ");
+    show::length(number_length(n));
+    show::byte(b':');
+    show::byte(b' ');
     show_written(n);
     show::byte(b'\n');
 }

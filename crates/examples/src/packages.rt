@@ -1,4 +1,6 @@
 // Packages: the text of an area and where its payload lies.
+ghost use mathlib.Core.Path.{_≡_};
+ghost use Rattle.manifest.specs.Answer.{answerNumber};
 use crate::case::field;
 use crate::show;
 use clusters::action::Action;
@@ -10,9 +12,9 @@ use text::version::Version;
 
 fn show_change(change: Change) {
     match change {
-        Change::Install => show::bytes(b"install "),
-        Change::Update => show::bytes(b"update "),
-        Change::Remove => show::bytes(b"remove "),
+        Change::Install => show::bytes(b" install "),
+        Change::Update => show::bytes(b" update "),
+        Change::Remove => show::bytes(b" remove "),
     }
 }
 
@@ -47,17 +49,28 @@ fn show_read(read: PackageRead) {
     show::count(read.start);
     show::bytes(b", sum ");
     show::number(read.sum);
+    show::byte(b'\n');
 }
 
-// What the case is of, and the area.
+// Refusal 9 or 10, or 0.
+fn refusal_of(answer: PackageAnswer) -> u32
+    ensures { λ r. ⌜ r ≡ answerNumber answer ⌝ }
+{
+    match answer {
+        PackageAnswer::IllFormed => 9,
+        PackageAnswer::Inconsistent => 10,
+        PackageAnswer::Consistent => 0,
+    }
+}
+
+// An area read, behind what the case is of.
 pub fn package(case: &[u8]) {
-    show::with_fields(b"package, %: ", case);
     let read = read_package(field(case, 2));
     let answer = read.answer;
-    match answer {
-        PackageAnswer::IllFormed => show::bytes(b"refused 9"),
-        PackageAnswer::Inconsistent => show::bytes(b"refused 10"),
-        PackageAnswer::Consistent => show_read(read),
+    let refusal = refusal_of(answer);
+    if 0 < refusal {
+        show::refused(refusal);
+        return;
     }
-    show::byte(b'\n');
+    show_read(read);
 }

@@ -19,24 +19,19 @@ pub fn count(n: usize) {
     io::print_decimal(STDOUT_FILENO, n as u64);
 }
 
-pub fn yes_or_no(b: bool) {
-    if b {
-        bytes(b"yes");
-    } else {
-        bytes(b"no");
-    }
+// How many bytes there are.
+pub fn length(n: usize) {
+    byte(b' ');
+    count(n);
+    bytes(b" bytes");
 }
 
-pub fn ill_formed() {
-    bytes(b"ill-formed");
-}
-
-// A text with the fields of a case behind its kind, one for each `%`.
-pub fn with_fields(text: &[u8], case: &[u8]) {
+// A sentence with the fields of a case behind the first, one for each `%`.
+pub fn with_fields(sentence: &[u8], case: &[u8]) {
     let mut k = 1;
     let mut i = 0;
-    while i < text.len() {
-        let b = text[i];
+    while i < sentence.len() {
+        let b = sentence[i];
         if b == b'%' {
             bytes(field(case, k));
             k += 1;
@@ -45,4 +40,28 @@ pub fn with_fields(text: &[u8], case: &[u8]) {
         }
         i += 1;
     }
+}
+
+// Here and below: an answer that ends its line.
+pub fn value(n: u32) {
+    byte(b' ');
+    number(n);
+    byte(b'\n');
+}
+
+pub fn yes_or_no(b: bool) {
+    if b {
+        bytes(b" yes\n");
+    } else {
+        bytes(b" no\n");
+    }
+}
+
+pub fn ill_formed() {
+    bytes(b" ill-formed\n");
+}
+
+pub fn refused(number: u32) {
+    bytes(b" refused");
+    value(number);
 }

@@ -12,7 +12,5 @@ fn sum_of(first: &[u8], second: &[u8]) -> u32 {
 
 // The sum of two parts.
 pub fn sum(case: &[u8]) {
-    show::with_fields(b"sum of `%` and `%`: ", case);
-    show::number(sum_of(field(case, 1), field(case, 2)));
-    show::byte(b'\n');
+    show::value(sum_of(field(case, 1), field(case, 2)));
 }

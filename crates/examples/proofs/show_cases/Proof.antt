@@ -14,8 +14,8 @@ abbrev μ-loop : tie.MeasureT-loop
 loop-holds : tie.Need-loop-holds Inv-loop μ-loop
 loop-holds c = search needs
 
-case-end-requires : tie.Need-case-end-requires Inv-loop μ-loop
-case-end-requires c κs = search needs
+find-requires : tie.Need-find-requires Inv-loop μ-loop
+find-requires c κs = search needs
 
 sub-show-case : tie.Need-sub-show-case Inv-loop μ-loop
 sub-show-case c = search needs
@@ -51,7 +51,7 @@ show-cases-spec =
     Inv-loop
     μ-loop
     loop-holds
-    case-end-requires
+    find-requires
     sub-show-case
     part-show-case-start
     part-show-case-end

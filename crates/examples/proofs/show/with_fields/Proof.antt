@@ -1,4 +1,4 @@
--- `examples::show::with_fields` is safe. The invariant: no more fields are passed than bytes of the text; the measure is what is left of the text. Assumes nothing.
+-- `examples::show::with_fields` is safe. The invariant: no more fields are passed than bytes of the sentence; the measure is what is left of it. Assumes nothing.
 use Prim.Native.Nat.{_+_, _≤_, _-_}
 use mathlib.Core.Logic.{⊎-elim}
 use native.Mathlib.Omega.{arith}
@@ -8,10 +8,10 @@ use Rattle.examples.proofs.show.with_fields.Statement.{statement}
 use Rattle.examples.proofs.show.with_fields.Tie as tie
 
 abbrev Inv-loop : tie.InvT-loop
-Inv-loop text case k₀ i₀ k i = k ≤ i + 1
+Inv-loop sentence case k₀ i₀ k i = k ≤ i + 1
 
 abbrev μ-loop : tie.MeasureT-loop
-μ-loop text case k₀ i₀ k i = length text - i
+μ-loop sentence case k₀ i₀ k i = length sentence - i
 
 loop-holds : tie.Need-loop-holds Inv-loop μ-loop
 loop-holds c = search needs

@@ -1,11 +1,14 @@
--- `examples::lists::show_read` is safe: a table that was read is within its limits, and its list fits the buffer. Assumes nothing.
+-- `examples::lists::list` is safe: a table that was read is within its limits, and its list fits the buffer. Assumes nothing.
 use mathlib.Core.Path.{sym}
 use lib.Seq.{length-take-le}
 use Rattle.cluster_list.proofs.Within.{list-read-within}
 use Rattle.examples.proofs.Laws.{list-fits, list-inside}
 use borrow.Author.Needs.{needs}
-use Rattle.examples.proofs.lists.show_read.Statement.{statement}
-use Rattle.examples.proofs.lists.show_read.Tie as tie
+use Rattle.examples.proofs.lists.list.Statement.{statement}
+use Rattle.examples.proofs.lists.list.Tie as tie
+
+field-requires : tie.Need-field-requires
+field-requires c κs = search needs
 
 read-list-requires : tie.Need-read-list-requires
 read-list-requires c κs = search needs
@@ -19,23 +22,17 @@ enum-told-2 c = search needs
 ill-formed-requires : tie.Need-ill-formed-requires
 ill-formed-requires c κs = search needs
 
-byte-requires : tie.Need-byte-requires
-byte-requires c κs = search needs
-
 returns : tie.Need-returns
 returns c = search needs
 
 list-length-requires : tie.Need-list-length-requires
 list-length-requires c κs = search list-read-within
 
-count-requires : tie.Need-count-requires
-count-requires c κs = search needs
+length-requires : tie.Need-length-requires
+length-requires c κs = search needs
 
-slice-aggregate-bytes : tie.Need-slice-aggregate-bytes
-slice-aggregate-bytes c = search needs
-
-bytes-requires : tie.Need-bytes-requires
-bytes-requires c κs = search needs
+byte-requires : tie.Need-byte-requires
+byte-requires c κs = search needs
 
 slice-aggregate-write-list : tie.Need-slice-aggregate-write-list
 slice-aggregate-write-list c = search needs
@@ -46,32 +43,31 @@ write-list-requires c κs = (search list-read-within, search (list-fits, needs))
 array-share-prefix-buffer : tie.Need-array-share-prefix-buffer
 array-share-prefix-buffer c = search (list-inside, needs)
 
-slice-aggregate-bytes-2 : tie.Need-slice-aggregate-bytes-2
-slice-aggregate-bytes-2 c = sym (length-take-le _ _ (search (list-inside, needs)))
+slice-aggregate-bytes : tie.Need-slice-aggregate-bytes
+slice-aggregate-bytes c = sym (length-take-le _ _ (search (list-inside, needs)))
 
-bytes-requires-2 : tie.Need-bytes-requires-2
-bytes-requires-2 c κs = search needs
+bytes-requires : tie.Need-bytes-requires
+bytes-requires c κs = search needs
 
 returns-2 : tie.Need-returns-2
 returns-2 c = search needs
 
-pub show-read-spec : {M : Type 1} → statement M
-show-read-spec =
+pub list-spec : {M : Type 1} → statement M
+list-spec =
     tie.close
     (tie.spec
+    field-requires
     read-list-requires
     enum-told
     enum-told-2
     ill-formed-requires
-    byte-requires
     returns
     list-length-requires
-    count-requires
-    slice-aggregate-bytes
-    bytes-requires
+    length-requires
+    byte-requires
     slice-aggregate-write-list
     write-list-requires
     array-share-prefix-buffer
-    slice-aggregate-bytes-2
-    bytes-requires-2
+    slice-aggregate-bytes
+    bytes-requires
     returns-2)

@@ -2,3 +2,4 @@ pub mod Tests
 pub mod Ladder
 pub mod Counted
 pub mod Refusals
+pub mod Examples

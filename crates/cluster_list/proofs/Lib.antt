@@ -9,3 +9,4 @@ pub mod ReadLaws
 pub mod LineLength
 pub mod ReadLengths
 pub mod Longest
+pub mod Examples

@@ -41,7 +41,7 @@ use Rattle.cluster_list.specs.declared.read.ListRead.{ListRead}
 use Rattle.cluster_list.specs.declared.read.ListAnswer.the-variants.{WellFormed, IllFormed}
 use Rattle.cluster_list.specs.Cells.{partField, andThenNeed}
 use Rattle.cluster_list.specs.Read.{andThenSome, clusterAdded, needLine, clusterBegun, clusterLine, valueLine, valueLines, listRead, Built}
-use Rattle.cluster_list.proofs.ThenLaws.{no-byte, some-byte}
+use Rattle.rows.proofs.Empty.{no-byte, some-byte}
 use Rattle.cluster_list.proofs.Within.{Within, value-line-within}
 use Rattle.cluster_list.proofs.Built.{built-struct}
 

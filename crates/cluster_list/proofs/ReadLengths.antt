@@ -2,7 +2,7 @@
 -- bytes, and one that adds both at most 70; the names line has 28. Assumes nothing.
 use Prim.Native.Nat.{ℕ, zero, suc, _+_, _*_, _≤_}
 use mathlib.Core.Path.{_≡_, refl, ap, subst}
-use mathlib.Core.Bool.{true, _&&_, false≢true}
+use mathlib.Core.Bool.{true, _&&_}
 use mathlib.Core.List.{List, [], _∷_, _++_}
 use mathlib.Core.Option.{Option, none, some}
 use native.Mathlib.Omega.{arith}
@@ -25,6 +25,7 @@ use Rattle.rows.specs.declared.columns.ClusterColumns.{ClusterColumns}
 use Rattle.rows.specs.Columns.{clusterColumns}
 use Rattle.rows.specs.Names.{clusterNames}
 use Rattle.rows.proofs.ColumnMeaning.{column-cell}
+use Rattle.rows.proofs.Empty.{empty-length}
 use Rattle.rows.proofs.NamesOnce.{Placed, none as nowhere, more, clusterPlaces, cluster-placed}
 use Rattle.rows.proofs.ThenLaws.{then-cases-line, then-cases-cluster-columns}
 use Rattle.rows.specs.Field.{cell, isEmpty}
@@ -63,10 +64,6 @@ version-read-short w v next e =
     let written = whole-version-written w v next e in
     rw (written .0) (version-most v (written .1))
 
-no-bytes : (w : List ℕ) → isEmpty w ≡ true → length w ≡ 0
-no-bytes [] h = refl
-no-bytes (b ∷ w) h = absurd (false≢true h)
-
 -- the fields needs and least: 33 bytes, or none
 abbrev ShortNeed : List ℕ → List ℕ → NeedRead → Type 0
 ShortNeed w v (need.Filled n) = length w + length v ≤ 33
@@ -77,7 +74,7 @@ need-short : (w v : List ℕ) → ShortNeed w v (needOf w v)
 unfolding needOf
 need-short w v =
     cond-cases (ShortNeed w v) (isEmpty w) _ _
-    (λ a. cond-cases (ShortNeed w v) (isEmpty v) _ _ (λ b. omega (arith, no-bytes w a, no-bytes v b)) (λ _. tt))
+    (λ a. cond-cases (ShortNeed w v) (isEmpty v) _ _ (λ b. omega (arith, empty-length w a, empty-length v b)) (λ _. tt))
     λ _. then-cases (ShortNeed w v) need.IllFormed (partField w) _ tt λ part behind e.
     then-cases-version (ShortNeed w v) need.IllFormed (wholeVersion v) _ tt λ least next f.
     omega (arith, part-read-short w part behind e, version-read-short v least next f)
@@ -150,7 +147,7 @@ module _ (columns : ClusterColumns) (l : List ℕ) (t : Table) where
       let a = isEmpty (cell (columns .cluster) l) in
       let b = isEmpty (cell (columns .version) l) in
       cond-cases (Adds (rowLength columns l) t) (a && b) _ _
-      (λ h. need-line-adds (omega (arith, no-bytes (cell (columns .cluster) l) (and-left a b h), no-bytes (cell (columns .version) l) (and-right a b h))))
+      (λ h. need-line-adds (omega (arith, empty-length (cell (columns .cluster) l) (and-left a b h), empty-length (cell (columns .version) l) (and-right a b h))))
       λ _. cluster-line-adds
 
 -- ---- the list

@@ -34,7 +34,7 @@ use Rattle.cluster_list.specs.declared.cells.NeedRead.the-variants.{Fill
 use Rattle.cluster_list.specs.Cells.{partField, needOf}
 use Rattle.cluster_list.specs.Read.{lastPart, withNeed, needAdded, clusterAdded, needLine, clusterBegun, clusterLine, valueLine, valueLines, readList}
 use Rattle.cluster_list.specs.Write.{namesLine, needCells, needLineText, needLinesText, clusterLines, clustersText, writeList}
-use Rattle.cluster_list.proofs.ThenLaws.{some-byte}
+use Rattle.rows.proofs.Empty.{some-byte}
 use Rattle.cluster_list.proofs.Last.{last-part, need-added, cluster-added}
 
 -- the columns of our writer

@@ -1,3 +1,4 @@
 pub mod Cells
 pub mod Read
 pub mod Write
+pub mod Open

@@ -10,8 +10,8 @@ use clusters::action::apply;
 use clusters::cluster::new_cluster;
 use clusters::table::CLUSTERS_MOST;
 use clusters::table::Table;
-use manifest::change::ChangeRead;
-use manifest::change::change_of;
+use package_heading::change::ChangeRead;
+use package_heading::change::change_of;
 
 // The part number and the last part of the version of each cluster.
 fn show_table(table: Table) {

@@ -1,5 +1,5 @@
-pub mod ThenLaws
-pub mod HeadingLaws
+pub mod FirstCluster
 pub mod PackageLaws
 pub mod Within
 pub mod Payload
+pub mod Examples

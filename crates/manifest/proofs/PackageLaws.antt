@@ -29,18 +29,20 @@ use Rattle.clusters.specs.Struct.{structCluster, structAction}
 use Rattle.clusters.specs.Exact as exact
 use Rattle.clusters.proofs.Structs.{struct-with-need}
 use Rattle.cluster_list.specs.Read.{andThenSome, withNeed}
-use Rattle.manifest.specs.declared.heading.FirstNeed.{FirstNeed}
-use Rattle.manifest.specs.declared.heading.FirstNeed.the-variants.{Filled, Empty}
-use Rattle.manifest.specs.declared.heading.Heading.{Heading as HeadingStruct}
-use Rattle.manifest.specs.declared.heading.HeadingRead.{HeadingRead}
-use Rattle.manifest.specs.declared.heading.HeadingRead.the-variants as heading-read
+use Rattle.package_heading.specs.declared.heading.FirstNeed.{FirstNeed}
+use Rattle.package_heading.specs.declared.heading.FirstNeed.the-variants.{Filled, Empty}
+use Rattle.package_heading.specs.declared.heading.Heading.{Heading as HeadingStruct}
+use Rattle.package_heading.specs.declared.heading.HeadingRead.{HeadingRead}
+use Rattle.package_heading.specs.declared.heading.HeadingRead.the-variants as heading-read
 use Rattle.manifest.specs.declared.lines.NeedLine.{NeedLine}
 use Rattle.manifest.specs.declared.lines.NeedLine.the-variants as need-line
 use Rattle.manifest.specs.declared.package.PackageAnswer.{PackageAnswer}
 use Rattle.manifest.specs.declared.package.PackageAnswer.the-variants.{Consistent, IllFormed, Inconsistent}
 use Rattle.manifest.specs.declared.package.PackageRead.{PackageRead as PackageReadStruct}
-use Rattle.manifest.specs.Package.{Heading, Text, PackageRead, illFormed, onlyNeed, furtherLines, furtherMost, packageWith, packageBehind}
-use Rattle.manifest.specs.Found.{firstNeeds, plainHeading, headingFound, needFound}
+use Rattle.package_heading.specs.Heading.{Heading}
+use Rattle.package_heading.specs.Found.{firstNeeds, plainHeading, headingFound}
+use Rattle.manifest.specs.Package.{Text, PackageRead, illFormed, onlyNeed, furtherLines, furtherMost, packageWith, packageBehind}
+use Rattle.manifest.specs.Found.{needFound}
 use Rattle.manifest.specs.Answer.{cleared, packageRead}
 
 -- ---- the structs that the code makes

@@ -20,7 +20,8 @@ use Rattle.clusters.specs.View.{actionOf}
 use Rattle.cluster_list.proofs.Within.{then-cases-some}
 use Rattle.manifest.specs.declared.package.PackageAnswer.{PackageAnswer}
 use Rattle.manifest.specs.declared.package.PackageAnswer.the-variants as answer
-use Rattle.manifest.specs.Package.{Manifest, PackageRead, illFormed, inconsistent, consistent, Heading, Text, firstLine, furtherLines, furtherMost, packageWith, readPackage}
+use Rattle.package_heading.specs.Heading.{Heading, firstLine}
+use Rattle.manifest.specs.Package.{Manifest, PackageRead, illFormed, inconsistent, consistent, Text, furtherLines, furtherMost, packageWith, readPackage}
 use Rattle.manifest.specs.Answer.{answerNumber, refusalNumber, packageRead}
 
 -- the text before the payload is well formed: h is what its first value line says, and t what the lines behind it say

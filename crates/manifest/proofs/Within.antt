@@ -33,78 +33,9 @@ use Rattle.cluster_list.specs.Read.{withNeed}
 use Rattle.cluster_list.proofs.ThenLaws.{then-cases-need}
 use Rattle.cluster_list.proofs.CellsWithin.{part-read-within, need-read-within}
 use Rattle.cluster_list.proofs.Within.{then-cases-some, cluster-is-within, with-need-within, one-need-within, no-need-within}
-use Rattle.manifest.specs.Package.{Manifest, PackageRead, illFormed, inconsistent, consistent, changeOf, Heading, onlyPart, removeHeading, clusterHeading, headingOf, firstLine, noCluster, noPayload, onlyNeed, Text, furtherLines, furtherMost, packageWith, readPackage}
-
--- ---- the first value line
-
--- the action within its limits, with room for the needs of the further lines that its change allows; payload count and sum
-pub record HeadingFacts (h : Heading) : Type 0 where
-  pub within : actionWithin (actionOf (h .change) (h .cluster)) ≡ true
-  pub room : length (h .cluster .needs) + furtherMost (h .change) ≤ needsMost
-  pub count : h .count ≤ 16777216
-  pub sum : h .sum ≤ 65535
-
-abbrev HeadingWithin : Option Heading → Type 0
-HeadingWithin none = Unit {0}
-HeadingWithin (some h) = HeadingFacts h
-
--- a change that has a cluster
-data HasCluster : Change → Type 0 where
-  installs : HasCluster Install
-  updates : HasCluster Update
-
-action-fine : {change : Change} → HasCluster change → (c : Cluster) → clusterWithin c ≡ true → actionWithin (actionOf change c) ≡ true
-unfolding actionWithin
-action-fine installs c h = h
-action-fine updates c h = h
-
-further-three : {change : Change} → HasCluster change → furtherMost change ≡ 3
-further-three installs = refl
-further-three updates = refl
-
-module _ (columns : PackageColumns) (l : List ℕ) (part count sum : ℕ) (fine : partWithin part ≡ true) (few : count ≤ 16777216) (small : sum ≤ 65535) where
-  remove-within : HeadingWithin (removeHeading columns l part count sum)
-  unfolding removeHeading actionWithin
-  remove-within =
-      cond-cases HeadingWithin (onlyPart (columns .«cluster_columns») l && eqb count 0) _ _
-      (λ b. record { within = fine; room = omega arith; count = few; sum = small }) λ b. tt
-
-  cluster-within : (change : Change) → HasCluster change → HeadingWithin (clusterHeading change columns l part count sum)
-  unfolding clusterHeading
-  cluster-within change has =
-      then-cases-version HeadingWithin none (wholeVersion (cell (columns .«cluster_columns» .version) l)) _ tt λ version next e.
-      let version-fine = whole-version-limits (cell (columns .«cluster_columns» .version) l) version next _ refl e in
-      then-cases-need HeadingWithin none _ (needFields (columns .«cluster_columns») l) _ tt
-      (λ f. record {
-        within = action-fine has _ (cluster-is-within (record { part = part; version = version; needs = [] }) fine version-fine (omega arith) no-need-within);
-        room = rw (further-three has) (omega arith);
-        count = few;
-        sum = small;
-      })
-      λ n f. record {
-        within = action-fine has _ (cluster-is-within (record { part = part; version = version; needs = n ∷ [] }) fine version-fine (omega arith) (one-need-within n (need-read-within _ _ n f)));
-        room = rw (further-three has) (omega arith);
-        count = few;
-        sum = small;
-      }
-
-  heading-within : (change : Change) → HeadingWithin (headingOf change columns l part count sum)
-  heading-within Install = cluster-within Install installs
-  heading-within Update = cluster-within Update updates
-  heading-within Remove = remove-within
-
-first-line-within : (columns : PackageColumns) (l : List ℕ) → HeadingWithin (firstLine columns l)
-unfolding firstLine
-first-line-within columns l =
-    then-cases-some HeadingWithin none (changeOf (cell (columns .action) l)) _ tt λ change a.
-    then-cases HeadingWithin none (partField (cell (columns .«cluster_columns» .cluster) l)) _ tt λ part behind e.
-    then-cases HeadingWithin none (wholeNumber 16777216 (cell (columns .payload) l)) _ tt λ count behind-count f.
-    then-cases HeadingWithin none (wholeNumber 65535 (cell (columns .sum) l)) _ tt λ sum behind-sum g.
-    heading-within columns l part count sum
-    (part-read-within _ part behind e)
-    (whole-number-most 16777216 (cell (columns .payload) l) count behind-count _ refl f)
-    (whole-number-most 65535 (cell (columns .sum) l) sum behind-sum _ refl g)
-    change
+use Rattle.package_heading.specs.Heading.{Heading, payloadMost, sumMost, firstLine}
+use Rattle.package_heading.proofs.Within.{HeadingFacts, HeadingWithin, HasCluster, installs, updates, action-fine, first-line-within}
+use Rattle.manifest.specs.Package.{Manifest, PackageRead, illFormed, inconsistent, consistent, noCluster, noPayload, onlyNeed, Text, furtherLines, furtherMost, packageWith, readPackage}
 
 -- ---- the further value lines
 
@@ -138,10 +69,10 @@ cluster-lines-within change has (suc lines) columns s at c h r =
     (rw (length-append (c .needs) (n ∷ [])) (omega arith))
 
 text-within : (change : Change) (columns : PackageColumns) (s : List ℕ) (at : ℕ) (c : Cluster) → actionWithin (actionOf change c) ≡ true
-    → length (c .needs) + furtherMost change ≤ needsMost → TextWithin change (furtherLines (furtherMost change) columns s at c)
+    → length (c .needs) ≤ 1 → TextWithin change (furtherLines (furtherMost change) columns s at c)
 unfolding furtherLines actionWithin
-text-within Install columns s at c h r = cluster-lines-within Install installs 3 columns s at c h r
-text-within Update columns s at c h r = cluster-lines-within Update updates 3 columns s at c h r
+text-within Install columns s at c h r = cluster-lines-within Install installs 3 columns s at c h (omega arith)
+text-within Update columns s at c h r = cluster-lines-within Update updates 3 columns s at c h (omega arith)
 text-within Remove columns s at c h r = cond-cases (TextWithin Remove) (eqb (getD s at 0) LF) _ _ (λ b. h) λ b. tt
 
 -- ---- the whole area
@@ -149,7 +80,7 @@ text-within Remove columns s at c h r = cond-cases (TextWithin Remove) (eqb (get
 abbrev ReadWithin : List ℕ → PackageRead → Type 0
 ReadWithin s illFormed = Unit {0}
 ReadWithin s inconsistent = Unit {0}
-ReadWithin s (consistent m) = (actionWithin (m .action) ≡ true) × (m .start + m .count ≡ length s) × (m .count ≤ 16777216) × (m .sum ≤ 65535)
+ReadWithin s (consistent m) = (actionWithin (m .action) ≡ true) × (m .start + m .count ≡ length s) × (m .count ≤ payloadMost) × (m .sum ≤ sumMost)
 
 package-within : (s : List ℕ) → ReadWithin s (readPackage s)
 unfolding readPackage packageWith
@@ -160,12 +91,12 @@ package-within s =
     then-cases-some (ReadWithin s) illFormed (firstLine columns (drop (first .at) s)) _ tt λ h d.
     let facts : HeadingFacts h = subst HeadingWithin d (first-line-within columns (drop (first .at) s)) in
     then-cases-some (ReadWithin s) illFormed (furtherLines (furtherMost (h .change)) columns s (next .at) (h .cluster)) _ tt λ t e.
-    let within = subst (TextWithin (h .change)) e (text-within (h .change) columns s (next .at) (h .cluster) (facts .within) (facts .room)) in
+    let within = subst (TextWithin (h .change)) e (text-within (h .change) columns s (next .at) (h .cluster) (facts .within) (facts .few)) in
     cond-cases (ReadWithin s) (eqb (t .start + h .count) (length s)) _ _ (λ f. (within, eqb-true _ _ f, facts .count, facts .sum)) λ f. tt
 
 -- what is read is within the limits, and text and payload are the whole area
 pub readPackage-within : (bytes : List ℕ) (m : Manifest) → readPackage bytes ≡ consistent m
-    → (actionWithin (m .action) ≡ true) × (m .start + m .count ≡ length bytes) × (m .count ≤ 16777216) × (m .sum ≤ 65535)
+    → (actionWithin (m .action) ≡ true) × (m .start + m .count ≡ length bytes) × (m .count ≤ payloadMost) × (m .sum ≤ sumMost)
 readPackage-within bytes m e = subst (ReadWithin bytes) e (package-within bytes)
 
 -- and the action in the struct of the code stands for the action that was read

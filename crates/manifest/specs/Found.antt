@@ -1,38 +1,8 @@
--- The answers of the readers of a word and of a line: what each case of an enum in the code stands for.
-use mathlib.Core.List.{List, [], _∷_}
+-- The answer of the reader of a further value line: what each case of the enum in the code stands for.
 use mathlib.Core.Option.{Option, none, some}
 use Rattle.clusters.specs.declared.cluster.Need.{Need}
-use Rattle.clusters.specs.declared.action.Change.{Change}
-use Rattle.manifest.specs.declared.change.ChangeRead.{ChangeRead}
-use Rattle.manifest.specs.declared.change.ChangeRead.the-variants as change-read
-use Rattle.manifest.specs.declared.heading.FirstNeed.{FirstNeed}
-use Rattle.manifest.specs.declared.heading.FirstNeed.the-variants.{Filled, Empty}
-use Rattle.manifest.specs.declared.heading.Heading.{Heading as HeadingStruct}
-use Rattle.manifest.specs.declared.heading.HeadingRead.{HeadingRead}
-use Rattle.manifest.specs.declared.heading.HeadingRead.the-variants as heading-read
 use Rattle.manifest.specs.declared.lines.NeedLine.{NeedLine}
 use Rattle.manifest.specs.declared.lines.NeedLine.the-variants as need-line
-use Rattle.manifest.specs.Package.{Heading, heading}
-
--- the change that a word names
-abbrev pub changeFound : ChangeRead → Option Change
-changeFound (change-read.Value k) = some k
-changeFound change-read.IllFormed = none
-
--- the needs of the first value line: one or none
-abbrev pub firstNeeds : FirstNeed → List Need
-firstNeeds (Filled n) = n ∷ []
-firstNeeds Empty = []
-
--- what the first value line says, without the code's grouping of its fields
-abbrev pub plainHeading : HeadingStruct → Heading
-plainHeading h =
-    heading (h .fields .change) (record { part = h .fields .part; version = h .version; needs = firstNeeds (h .need) }) (h .fields .count) (h .fields .sum)
-
--- the first value line, or none where it is ill-formed
-abbrev pub headingFound : HeadingRead → Option Heading
-headingFound (heading-read.Value h) = some (plainHeading h)
-headingFound heading-read.IllFormed = none
 
 -- the need of a further value line, or none where the line is ill-formed
 abbrev pub needFound : NeedLine → Option Need

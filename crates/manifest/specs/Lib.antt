@@ -1,3 +1,4 @@
 pub mod Package
 pub mod Found
 pub mod Answer
+pub mod Open

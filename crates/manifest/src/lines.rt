@@ -3,32 +3,21 @@ ghost use mathlib.Core.Path.{_≡_};
 ghost use lib.Dec.{eqb};
 ghost use lib.ListN.{drop, getD};
 ghost use Rattle.base.specs.Quoted.{LF};
-ghost use Rattle.rows.specs.Field.{cell, isEmpty};
-ghost use Rattle.manifest.specs.Package.{noCluster, noPayload, onlyNeed};
+ghost use Rattle.manifest.specs.Package.{noCluster, noPayload, onlyNeed, furtherMost};
 ghost use Rattle.manifest.specs.Found.{needFound};
 use cluster_list::cells::NeedRead;
 use cluster_list::cells::need_fields;
+use clusters::action::Change;
 use clusters::cluster::Need;
 use rows::columns::ClusterColumns;
 use rows::columns::PackageColumns;
-use rows::field::cell_at;
+use rows::field::cell_is_empty;
 use text::cursor::Cursor;
 
 // What reading a value line behind the first finds.
 pub enum NeedLine {
     Value(Need),
     IllFormed,
-}
-
-// Whether field number k of the line at a cursor is empty.
-pub fn cell_is_empty(s: &[u8], line: Cursor, k: usize) -> bool
-    ensures { λ r. ⌜ r ≡ isEmpty (cell k (drop (line .at) (now (s .entry)))) ⌝ }
-{
-    let field = cell_at(s, line, k);
-    if field.len() < 1 {
-        return true;
-    }
-    false
 }
 
 // Whether the empty line stands at a cursor.
@@ -80,5 +69,16 @@ pub fn only_need(s: &[u8], line: Cursor, columns: PackageColumns) -> NeedLine
         NeedRead::Filled(need) => NeedLine::Value(need),
         NeedRead::Empty => NeedLine::IllFormed,
         NeedRead::IllFormed => NeedLine::IllFormed,
+    }
+}
+
+// How many value lines may follow the first.
+pub fn further_most(change: Change) -> usize
+    ensures { λ r. ⌜ r ≡ furtherMost change ⌝ }
+{
+    match change {
+        Change::Install => 3,
+        Change::Update => 3,
+        Change::Remove => 0,
     }
 }

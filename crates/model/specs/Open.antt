@@ -16,7 +16,8 @@ use Rattle.clusters.specs.Action.{apply, applyAll, touched, clusterPresent, clu
 use Rattle.cluster_list.specs.Cells.{partField, needOf}
 use Rattle.cluster_list.specs.Read.{lastPart, clusterAdded, needAdded, needLine, clusterBegun, clusterLine, valueLine, valueLines, readList}
 use Rattle.cluster_list.specs.Write.{needLineText, needLinesText, clusterLines, clustersText, writeList}
-use Rattle.manifest.specs.Package.{changeOf, removeHeading, clusterHeading, firstLine, onlyNeed, furtherLines, packageWith, readPackage}
+use Rattle.package_heading.specs.Heading.{changeOf, removeHeading, clusterHeading, firstLine}
+use Rattle.manifest.specs.Package.{onlyNeed, furtherLines, packageWith, readPackage}
 use Rattle.model.specs.Permissions.{allowed}
 use Rattle.model.specs.Areas.{declared, free, find, packageOf, areaOf, overwritten, blockPut, remaining, remainingAreas, deleted, changed, countIn, processingId}
 use Rattle.model.specs.Tables.{staged, runningIn, running}

@@ -1,4 +1,5 @@
 pub mod FieldLaws
+pub mod Empty
 pub mod LineLaws
 pub mod ColumnLaws
 pub mod ThenLaws
@@ -10,3 +11,4 @@ pub mod NamesLine
 pub mod Totals
 pub mod LineBytes
 pub mod NamesOnce
+pub mod Examples

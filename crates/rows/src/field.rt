@@ -2,7 +2,7 @@
 ghost use mathlib.Core.Path.{_≡_};
 ghost use Prim.Native.Nat.{_+_, _≤_};
 ghost use lib.ListN.{length, drop};
-ghost use Rattle.rows.specs.Field.{field, behindField, cell, Start};
+ghost use Rattle.rows.specs.Field.{field, behindField, cell, isEmpty, Start};
 use text::cursor::Cursor;
 
 // The position of the first comma or LF from a position on, or the end. Its callers here give a position within the text.
@@ -60,4 +60,15 @@ pub fn cell_at(s: &[u8], line: Cursor, k: usize) -> &[u8]
     let from = cell_start(s, line, k);
     let to = field_end(s, from);
     &s[from..to]
+}
+
+// Whether field number k of the line at a cursor is empty.
+pub fn cell_is_empty(s: &[u8], line: Cursor, k: usize) -> bool
+    ensures { λ r. ⌜ r ≡ isEmpty (cell k (drop (line .at) (now (s .entry)))) ⌝ }
+{
+    let field = cell_at(s, line, k);
+    if field.len() < 1 {
+        return true;
+    }
+    false
 }

@@ -9,3 +9,4 @@ pub mod WordLaws
 pub mod RoundTrip
 pub mod Meaning
 pub mod Bytes
+pub mod Examples

@@ -5,3 +5,4 @@ pub mod Word
 pub mod Digits
 pub mod Put
 pub mod Meaning
+pub mod Open

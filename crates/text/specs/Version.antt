@@ -14,6 +14,9 @@ use Rattle.text.specs.Number.{numberAt}
 use Rattle.text.specs.Digits.{digits}
 use Rattle.text.specs.Then.{andThen, andThenVersion}
 
+abbrev pub version : ℕ → ℕ → ℕ → ℕ → Version
+version first second third fourth = record { first = first; second = second; third = third; fourth = fourth }
+
 -- "65,535": the one place in the definitions that has this limit
 abbrev pub versionPartMost : ℕ
 versionPartMost = 65535
@@ -33,7 +36,7 @@ versionAt s at =
     andThen IllFormed (dottedAt s (behind-first .at)) λ second behind-second.
     andThen IllFormed (dottedAt s (behind-second .at)) λ third behind-third.
     andThen IllFormed (dottedAt s (behind-third .at)) λ fourth next.
-    Value (record { first = first; second = second; third = third; fourth = fourth }) next
+    Value (version first second third fourth) next
 
 -- a text that is one version and nothing else
 unfoldable pub wholeVersion : List ℕ → VersionRead

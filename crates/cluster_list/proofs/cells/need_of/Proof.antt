@@ -3,7 +3,7 @@ use borrow.Author.Needs.{needs}
 use Rattle.base.proofs.Ladder.{ladder}
 use Rattle.text.proofs.ThenLaws.{chain}
 use Rattle.cluster_list.specs.Cells.{needOf}
-use Rattle.cluster_list.proofs.ThenLaws.{emptiness}
+use Rattle.rows.proofs.Empty.{emptiness}
 use Rattle.cluster_list.proofs.cells.need_of.Statement.{statement}
 use Rattle.cluster_list.proofs.cells.need_of.Tie as tie
 

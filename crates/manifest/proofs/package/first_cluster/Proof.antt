@@ -1,7 +1,6 @@
 -- `manifest::package::first_cluster` meets its contract: a new cluster, with the first need where there is one. Assumes nothing.
 use borrow.Author.Needs.{needs}
-use Rattle.manifest.proofs.HeadingLaws.{new-room}
-use Rattle.manifest.proofs.HeadingLaws.{no-first-need, first-need}
+use Rattle.manifest.proofs.FirstCluster.{new-room, no-first-need, first-need}
 use Rattle.manifest.proofs.package.first_cluster.Statement.{statement}
 use Rattle.manifest.proofs.package.first_cluster.Tie as tie
 

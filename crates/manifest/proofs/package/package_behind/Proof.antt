@@ -3,7 +3,7 @@
 -- Measure: the lines that may follow. Assumes nothing.
 use borrow.Author.Needs.{needs}
 use Rattle.manifest.specs.Package.{packageBehind}
-use Rattle.manifest.specs.Found.{plainHeading}
+use Rattle.package_heading.specs.Found.{plainHeading}
 use Rattle.manifest.specs.Answer.{packageRead}
 use Rattle.manifest.proofs.PackageLaws.{Reading, reading-begins, at-end, end-inside, no-room, need-fits, no-line-here, no-need-here, next-line}
 use Rattle.manifest.proofs.package.package_behind.Statement.{statement}

@@ -1,0 +1,4 @@
+pub mod ThenLaws
+pub mod HeadingLaws
+pub mod Within
+pub mod Examples

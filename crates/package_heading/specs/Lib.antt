@@ -1,0 +1,3 @@
+pub mod Heading
+pub mod Found
+pub mod Open

@@ -1,0 +1,3 @@
+// The first value line of a package: its action, cluster, payload count and sum.
+pub mod change;
+pub mod heading;

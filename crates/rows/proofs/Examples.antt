@@ -1,0 +1,108 @@
+-- Fields, lines and names lines at their boundaries, computed: what is accepted, and what is refused beside it. Assumes nothing.
+use Prim.Native.Nat.{ℕ}
+use Prim.Native.String.{String}
+use mathlib.Core.Path.{refl}
+use mathlib.Core.Bool.{Bool, true, false}
+use mathlib.Core.List.{List, [], _∷_}
+use mathlib.Core.Option.{Option, none, some}
+use Rattle.base.specs.Quoted.{bytes}
+use Rattle.base.proofs.Examples.{_gives_, AllHold, inLines}
+use Rattle.rows.specs.declared.columns.ClusterColumns.{ClusterColumns}
+use Rattle.rows.specs.declared.columns.PackageColumns.{PackageColumns}
+use Rattle.rows.specs.Field.{cell, isEmpty, plainField}
+use Rattle.rows.specs.Line.{lineFrom, lineText, andThenLine}
+use Rattle.rows.specs.Columns.{clusterColumns, packageColumns, andThenClusterColumns, andThenPackageColumns}
+use Rattle.rows.specs.Names.{clusterNames, timesNamed}
+use Rattle.rows.specs.Open.{computing}
+
+-- ---- fields and lines
+
+-- "Fields are parted by commas; every line ends in LF."
+abbrev fieldNumber : ℕ → List ℕ
+fieldNumber k = cell k (inLines ("ab,,c d" ∷ "e" ∷ []))
+
+fields-computed : AllHold fieldNumber (0 gives bytes "ab" ∷ 1 gives [] ∷ 2 gives bytes "c d" ∷ [])
+unfolding computing
+fields-computed = refl
+
+empty-computed : AllHold (λ (text : String). isEmpty (bytes text)) ("" gives true ∷ " " gives false ∷ "0" gives false ∷ [])
+empty-computed = refl
+
+plain-computed : AllHold plainField
+    (bytes "" gives true ∷ bytes "1.0" gives true ∷ bytes "1,0" gives false ∷ bytes "," gives false ∷ inLines ("1" ∷ []) gives false ∷ [])
+unfolding computing
+plain-computed = refl
+
+-- where a line of three fields ends that begins at position 5
+abbrev endOfThree : List ℕ → Option ℕ
+endOfThree text = andThenLine none (lineFrom 2 5 text) some
+
+lines-computed : AllHold endOfThree
+    (inLines ("a,b,c" ∷ []) gives some 11
+    ∷ inLines (",," ∷ "rest" ∷ []) gives some 8
+    ∷ inLines ("a,b" ∷ []) gives none
+    ∷ inLines ("a,b,c,d" ∷ []) gives none
+    ∷ inLines ("a,b," ∷ "c" ∷ []) gives some 10
+    ∷ bytes "a,b,c" gives none
+    ∷ inLines ("" ∷ []) gives none
+    ∷ [] gives none
+    ∷ [])
+unfolding computing
+lines-computed = refl
+
+written-computed : AllHold lineText
+    ((bytes "a" ∷ [] ∷ bytes "bc" ∷ []) gives inLines ("a,,bc" ∷ []) ∷ (bytes "a" ∷ []) gives inLines ("a" ∷ []) ∷ [])
+unfolding computing
+written-computed = refl
+
+-- ---- names lines
+
+abbrev clusterNamed : String → Option ClusterColumns
+clusterNamed names = andThenClusterColumns none (clusterColumns 4 (inLines (names ∷ "," ∷ []))) some
+
+abbrev columns : ℕ → ℕ → ℕ → ℕ → ClusterColumns
+columns cluster version needs least = record { cluster = cluster; version = version; needs = needs; least = least }
+
+-- "The names are `cluster`, `version`, `needs`, `least`, each once, in any order."
+cluster-names-computed : AllHold clusterNamed
+    ("cluster,version,needs,least" gives some (columns 0 1 2 3)
+    ∷ "least,needs,version,cluster" gives some (columns 3 2 1 0)
+    ∷ "version,cluster,least,needs" gives some (columns 1 0 3 2)
+    ∷ "cluster,cluster,needs,least" gives none
+    ∷ "cluster,version,needs,needs" gives none
+    ∷ "cluster,version,needs," gives none
+    ∷ ",version,needs,least" gives none
+    ∷ "cluster,version,need,least" gives none
+    ∷ "Cluster,version,needs,least" gives none
+    ∷ "cluster, version,needs,least" gives none
+    ∷ "cluster,version,needs,sum" gives none
+    ∷ [])
+unfolding computing
+cluster-names-computed = refl
+
+abbrev packageNamed : String → Option PackageColumns
+packageNamed names = andThenPackageColumns none (packageColumns 7 (inLines (names ∷ "," ∷ []))) some
+
+abbrev allColumns : ℕ → ℕ → ℕ → ClusterColumns → PackageColumns
+allColumns action payload sum c = record { action = action; payload = payload; sum = sum; «cluster_columns» = c }
+
+-- "`action`, `cluster`, `version`, `payload`, `sum`, `needs`, `least` (any order, each once)"
+package-names-computed : AllHold packageNamed
+    ("action,cluster,version,payload,sum,needs,least" gives some (allColumns 0 3 4 (columns 1 2 5 6))
+    ∷ "least,needs,sum,payload,version,cluster,action" gives some (allColumns 6 3 2 (columns 5 4 1 0))
+    ∷ "action,action,version,payload,sum,needs,least" gives none
+    ∷ "cluster,cluster,version,payload,sum,needs,least" gives none
+    ∷ "action,cluster,version,payload,payload,needs,least" gives none
+    ∷ "action,cluster,version,payload,,needs,least" gives none
+    ∷ "action,cluster,version,,sum,needs,least" gives none
+    ∷ ",cluster,version,payload,sum,needs,least" gives none
+    ∷ "ACTION,cluster,version,payload,sum,needs,least" gives none
+    ∷ [])
+unfolding computing
+package-names-computed = refl
+
+-- how often a name stands in a line
+times-computed : AllHold (λ (name : String). timesNamed 3 (bytes name) (inLines ("sum,a,sum,sum" ∷ [])))
+    ("sum" gives 2 ∷ "a" gives 1 ∷ "b" gives 0 ∷ "su" gives 0 ∷ [])
+unfolding computing
+times-computed = refl

@@ -23,6 +23,6 @@ firstId = 1
 unfoldable pub answerTo : State → List ℕ → List ℕ
 answerTo given input = printed (load given input firstId [] .reply) (load given input firstId [] .state)
 
--- reading stops where the input ends or the buffer is full: what was read of an input into a buffer of that many bytes
+-- what was read of an input into a buffer of that many bytes: reading stops where the input ends or the buffer is full
 abbrev pub ReadInto : ℕ → List ℕ → List ℕ → Type 0
 ReadInto room input read = read ≡ take room input

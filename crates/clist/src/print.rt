@@ -26,8 +26,8 @@ fn put_answer(input: &[u8], buf: &mut [u8]) -> usize
     write_list(buf, read.table)
 }
 
-// What is printed of every input of which the first `count` bytes of a buffer were read. The buffer has room for more than the longest
-// list, so that an input which does not fit it is refused whatever follows. `main` lends such buffers.
+// What is printed of every input of which `count` bytes were read into a buffer: all, or as many as it has. It has more than a list can
+// have, so an input that does not fit it is refused whatever follows. `main` lends such buffers.
 pub fn put_answer_to_read(read: &[u8], count: usize, buf: &mut [u8]) -> usize
     requires { ⌜ (readListMost < length (now read)) × Counts count (now read) × (writtenListMost ≤ length (now buf)) ⌝ }
     ensures answer { λ r. ⌜ ((given : State) (input : List ℕ) → ReadInto (length (now (read .entry))) input (take count (now (read .entry))) → Put (now (buf .entry)) 0 (answerTo given input) r (now (buf .exit))) ⌝ }

@@ -1,24 +1,58 @@
--- Examples in a table, a row each: what is given, and what comes of it. A table is computed whole, by one `refl`. Also texts of
--- several lines. Assumes nothing.
+-- What the shared definitions give, computed. Assumes nothing.
 use Prim.Native.Nat.{ℕ}
-use Prim.Native.String.{String}
-use mathlib.Core.Path.{_≡_}
-use mathlib.Core.List.{List, [], _∷_, _++_, map}
-use Rattle.base.specs.Quoted.{bytes, LF}
+use mathlib.Core.Path.{refl}
+use mathlib.Core.Bool.{Bool, true, false}
+use mathlib.Core.List.{List, [], _∷_}
+use mathlib.Core.Option.{Option, none, some}
+use Rattle.base.specs.Quoted.{bytes, LF, comma, dot}
+use Rattle.base.specs.Refusals.{Refusal, refuse_when_, firstRefusal, noneApplies, numberOrZero}
+use Rattle.base.specs.Counted.{counted}
+use Rattle.base.proofs.Tables.{_gives_, AllHold}
 
-pub record Example (A B : Type 0) : Type 0 where
-  pub given : A
-  pub expected : B
+-- "Text is ASCII"
+texts-computed : AllHold bytes
+    ("" gives []
+    ∷ "az" gives (97 ∷ 122 ∷ [])
+    ∷ "09" gives (48 ∷ 57 ∷ [])
+    ∷ "," gives (comma ∷ [])
+    ∷ "." gives (dot ∷ [])
+    ∷ "\n" gives (LF ∷ [])
+    ∷ [])
+texts-computed = refl
 
-infix 70 _gives_
-abbrev pub _gives_ : {A B : Type 0} → A → B → Example A B
-a gives b = record { given = a; expected = b }
+-- "Checked in this order": the first that applies, whatever its number
+abbrev refusals : Bool → Bool → Bool → List Refusal
+refusals a b c = (refuse 7 when a) ∷ (refuse 16 when b) ∷ (refuse 4 when c) ∷ []
 
--- every row of the table holds
-abbrev pub AllHold : {A B : Type 0} → (A → B) → List (Example A B) → Type 0
-AllHold f examples = map (λ e. f (e .given)) examples ≡ map (λ e. e .expected) examples
+first-computed : AllHold firstRefusal
+    (refusals false false false gives none
+    ∷ refusals true true true gives some 7
+    ∷ refusals false true true gives some 16
+    ∷ refusals false false true gives some 4
+    ∷ refusals false true false gives some 16
+    ∷ [] gives none
+    ∷ [])
+unfolding firstRefusal
+first-computed = refl
 
--- a text of lines, each ended by LF
-abbrev pub inLines : List String → List ℕ
-inLines [] = []
-inLines (line ∷ rest) = bytes line ++ LF ∷ inLines rest
+none-computed : AllHold noneApplies
+    (refusals false false false gives true
+    ∷ refusals true false false gives false
+    ∷ refusals false true false gives false
+    ∷ refusals false false true gives false
+    ∷ [] gives true
+    ∷ [])
+unfolding noneApplies
+none-computed = refl
+
+-- "the refusal number, or 0"
+numbers-computed : AllHold numberOrZero (none gives 0 ∷ some 9 gives 9 ∷ [])
+numbers-computed = refl
+
+-- an array of three with a count: a count above the room is a list longer than the room
+abbrev firstOf : ℕ → List ℕ
+firstOf count = counted 3 0 count (7 ∷ 8 ∷ 9 ∷ [])
+
+counted-computed : AllHold firstOf
+    (0 gives [] ∷ 2 gives (7 ∷ 8 ∷ []) ∷ 3 gives (7 ∷ 8 ∷ 9 ∷ []) ∷ 4 gives (0 ∷ 0 ∷ 0 ∷ 0 ∷ []) ∷ [])
+counted-computed = refl

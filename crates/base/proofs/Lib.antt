@@ -2,4 +2,5 @@ pub mod Tests
 pub mod Ladder
 pub mod Counted
 pub mod Refusals
+pub mod Tables
 pub mod Examples

@@ -4,7 +4,7 @@ use mathlib.Core.Path.{_≡_, refl}
 use mathlib.Core.Bool.{true, false}
 use mathlib.Core.List.{List, [], _∷_}
 use Rattle.base.specs.Quoted.{bytes}
-use Rattle.base.proofs.Examples.{_gives_, AllHold}
+use Rattle.base.proofs.Tables.{_gives_, AllHold}
 use Rattle.checksum.specs.declared.Sums.{Sums}
 use Rattle.checksum.specs.Sum.{step, continued, sumNumber, sumOf, sumsWithin}
 

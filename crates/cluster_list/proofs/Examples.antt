@@ -6,7 +6,7 @@ use mathlib.Core.List.{List, [], _∷_, _++_}
 use mathlib.Core.Option.{Option, none, some}
 use lib.ListN.{length, take, drop}
 use Rattle.base.specs.Quoted.{bytes, LF}
-use Rattle.base.proofs.Examples.{_gives_, AllHold, inLines}
+use Rattle.base.proofs.Tables.{_gives_, AllHold, inLines}
 use Rattle.text.specs.declared.version.Version.{Version}
 use Rattle.text.specs.Version.{version}
 use Rattle.text.specs.Digits.{digits}
@@ -104,6 +104,8 @@ need-lines-computed : AllHold below
     ((",,20,1.0.0.0" ∷ []) gives some (cluster 7 (version 1 0 0 0) (need 20 (version 1 0 0 0) ∷ []) ∷ [])
     ∷ (",,20,1.0.0.0" ∷ ",,7,2.0.0.0" ∷ []) gives some (cluster 7 (version 1 0 0 0) (need 20 (version 1 0 0 0) ∷ need 7 (version 2 0 0 0) ∷ []) ∷ [])
     ∷ ("8,1.0.0.0,," ∷ ",,7,2.0.0.0" ∷ []) gives some (cluster 7 (version 1 0 0 0) [] ∷ cluster 8 (version 1 0 0 0) (need 7 (version 2 0 0 0) ∷ []) ∷ [])
+    ∷ ("8,,20,1.0.0.0" ∷ []) gives none
+    ∷ (",1.0.0.0,20,1.0.0.0" ∷ []) gives none
     ∷ (",,20," ∷ []) gives none
     ∷ (",,,1.0.0.0" ∷ []) gives none
     ∷ (",,," ∷ []) gives none
@@ -161,6 +163,7 @@ texts-computed : AllHold clustersIn
     ∷ inLines ("cluster,version,needs,least," ∷ []) gives none
     ∷ inLines ("cluster,version,needs,least,sum" ∷ []) gives none
     ∷ inLines ("cluster,version,needs,needs" ∷ []) gives none
+    ∷ inLines (",cluster,version,needs" ∷ "least,7,1.0.0.0," ∷ []) gives none
     ∷ [])
 unfolding computing
 texts-computed = refl

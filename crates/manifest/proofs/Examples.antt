@@ -5,7 +5,7 @@ use Prim.Native.String.{String}
 use mathlib.Core.Path.{refl}
 use mathlib.Core.List.{List, [], _∷_, _++_}
 use Rattle.base.specs.Quoted.{bytes}
-use Rattle.base.proofs.Examples.{_gives_, AllHold, inLines}
+use Rattle.base.proofs.Tables.{_gives_, AllHold, inLines}
 use Rattle.text.specs.Version.{version}
 use Rattle.clusters.specs.declared.cluster.Need.{Need}
 use Rattle.clusters.specs.Cluster.{Cluster, cluster}
@@ -49,6 +49,14 @@ names-computed : AllHold named
     ∷ [])
 unfolding computing
 names-computed = refl
+
+-- a name at the beginning of the next line is none of the names line's
+name-behind-computed : AllHold (λ (lines : List String). packageOf lines "")
+    (("sum,action,cluster,version,payload,least,needs" ∷ "0,install,30,1.0.0.0,0,," ∷ "" ∷ []) gives says (install (thirty [])) 73 0 0
+    ∷ (",action,cluster,version,payload,sum,needs" ∷ "least,install,30,1.0.0.0,0,0," ∷ "" ∷ []) gives illFormed
+    ∷ [])
+unfolding computing
+name-behind-computed = refl
 
 -- ---- the value lines
 
@@ -107,6 +115,7 @@ firsts-computed : AllHold lined
     ∷ ("remove,30,,0,9,," ∷ "" ∷ []) gives says (remove 30) 65 0 9
     ∷ ("remove,30,,0,0,," ∷ ",,,,,20,1.0.4.0" ∷ "" ∷ []) gives illFormed
     ∷ ("remove,30,,0,0,," ∷ ",,,,,," ∷ "" ∷ []) gives illFormed
+    ∷ ("remove,30,,0,0,," ∷ []) gives illFormed
     ∷ ("remove,30,1.0.0.0,0,0,," ∷ "" ∷ []) gives illFormed
     ∷ ("install,30,1.0.0.0,0,0," ∷ "" ∷ []) gives illFormed
     ∷ ("install,30,1.0.0.0,0,0,,," ∷ "" ∷ []) gives illFormed

@@ -5,7 +5,7 @@ use mathlib.Core.Path.{refl}
 use mathlib.Core.List.{List, [], _∷_}
 use mathlib.Core.Option.{Option, none, some}
 use Rattle.base.specs.Quoted.{bytes}
-use Rattle.base.proofs.Examples.{_gives_, AllHold, inLines}
+use Rattle.base.proofs.Tables.{_gives_, AllHold, inLines}
 use Rattle.text.specs.declared.version.Version.{Version}
 use Rattle.text.specs.Version.{version}
 use Rattle.rows.specs.declared.columns.PackageColumns.{PackageColumns}

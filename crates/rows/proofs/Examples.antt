@@ -6,7 +6,7 @@ use mathlib.Core.Bool.{Bool, true, false}
 use mathlib.Core.List.{List, [], _∷_}
 use mathlib.Core.Option.{Option, none, some}
 use Rattle.base.specs.Quoted.{bytes}
-use Rattle.base.proofs.Examples.{_gives_, AllHold, inLines}
+use Rattle.base.proofs.Tables.{_gives_, AllHold, inLines}
 use Rattle.rows.specs.declared.columns.ClusterColumns.{ClusterColumns}
 use Rattle.rows.specs.declared.columns.PackageColumns.{PackageColumns}
 use Rattle.rows.specs.Field.{cell, isEmpty, plainField}
@@ -21,7 +21,7 @@ use Rattle.rows.specs.Open.{computing}
 abbrev fieldNumber : ℕ → List ℕ
 fieldNumber k = cell k (inLines ("ab,,c d" ∷ "e" ∷ []))
 
-fields-computed : AllHold fieldNumber (0 gives bytes "ab" ∷ 1 gives [] ∷ 2 gives bytes "c d" ∷ [])
+fields-computed : AllHold fieldNumber (0 gives bytes "ab" ∷ 1 gives [] ∷ 2 gives bytes "c d" ∷ 3 gives bytes "e" ∷ 4 gives [] ∷ [])
 unfolding computing
 fields-computed = refl
 
@@ -51,7 +51,7 @@ unfolding computing
 lines-computed = refl
 
 written-computed : AllHold lineText
-    ((bytes "a" ∷ [] ∷ bytes "bc" ∷ []) gives inLines ("a,,bc" ∷ []) ∷ (bytes "a" ∷ []) gives inLines ("a" ∷ []) ∷ [])
+    ((bytes "a" ∷ [] ∷ bytes "bc" ∷ []) gives inLines ("a,,bc" ∷ []) ∷ (bytes "a" ∷ []) gives inLines ("a" ∷ []) ∷ [] gives inLines ("" ∷ []) ∷ [])
 unfolding computing
 written-computed = refl
 

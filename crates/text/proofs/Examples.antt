@@ -6,7 +6,7 @@ use mathlib.Core.Bool.{Bool, true, false}
 use mathlib.Core.List.{List, [], _∷_}
 use mathlib.Core.Option.{Option, none, some}
 use Rattle.base.specs.Quoted.{bytes}
-use Rattle.base.proofs.Examples.{_gives_, AllHold}
+use Rattle.base.proofs.Tables.{_gives_, AllHold}
 use Rattle.text.specs.declared.version.Version.{Version}
 use Rattle.text.specs.Number.{numberAt, wholeNumber}
 use Rattle.text.specs.Version.{version, versionWithin, versionAt, wholeVersion, versionText}

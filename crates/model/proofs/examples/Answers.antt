@@ -18,7 +18,7 @@ use Rattle.model.specs.Tables.{runningIn}
 use Rattle.model.specs.Run.{Run}
 use Rattle.model.proofs.examples.Open.{computing}
 use Rattle.model.proofs.examples.Transcript.{packageText, packageOf, transfers, session, entry, kept, Start, start, _gives_, Case, from_calls_, _ends_, HoldLooking}
-use Rattle.model.proofs.examples.Samples.{cluster20, updated20, cluster30, dependent30, updateText, readyWith, incomplete, waiting, four, bytesOfFour, listedTwo, stagedTable, sessionIn}
+use Rattle.model.proofs.examples.Samples.{cluster20, updated20, cluster30, dependent30, updateText, readyWith, package1, package2, package3, package4, bytesOfFour, listedTwo, stagedTable, sessionWith, sessionIn}
 
 -- the cases of this file look at the whole state and store
 abbrev left : Run → Start
@@ -26,21 +26,19 @@ left r = start (r .state) (r .store)
 
 -- ---- the calls between Ready and Idle
 
--- the session with needs that its second package, of too low a version, does not meet
+-- the session where the second package brings too low a version, so that a need is not met
 abbrev unmetIn : Phase → Start
-unmetIn phase =
-    start
-    (state
-    phase
-    (transfers four 5)
-    (session (cluster20 ∷ []) (entry 3 (install dependent30) ∷ entry 1 (update (cluster 20 (version 1 0 4 9) [])) ∷ []))
-    none)
+unmetIn =
+    sessionWith
+    (package1 ∷ package2 ∷ package3 ∷ package4 ∷ [])
+    5
+    (entry 3 (install dependent30) ∷ entry 1 (update (cluster 20 (version 1 0 4 9) [])) ∷ [])
     bytesOfFour
 
 -- Idle, both Processed packages deleted: the others' areas moved down, 0 behind them. The next session begins with a table
 abbrev cleaned : Table → Start
 cleaned table =
-    start (state idle (transfers (incomplete ∷ waiting ∷ []) 5) (session table []) none)
+    start (state idle (transfers (package2 ∷ package4 ∷ []) 5) (session table []) none)
     (bytes "c" ++ replicate 3 0 ++ bytes "efg" ++ replicate 5 0)
 
 abbrev moves : List (Case Start)
@@ -83,13 +81,11 @@ moves =
 
 -- that session in Verifying, with other packages, next id and store
 abbrev verifyingWith : List Package → ℕ → Store → Start
-verifyingWith packages next store = start (state verifying (transfers packages next) (session (cluster20 ∷ []) listedTwo) none) store
+verifyingWith packages next store = sessionWith packages next listedTwo store verifying
 
 -- with the Transferring package after other blocks
-abbrev withBegun : Package → List ℕ → Start
-withBegun p area =
-    verifyingWith (packageOf 1 2 2 1 states.processed ∷ p ∷ packageOf 3 1 1 1 states.processed ∷ waiting ∷ []) 5
-    (bytes "ab" ++ area ++ bytes "defg" ++ replicate 2 0)
+abbrev afterBlocks : Package → List ℕ → Start
+afterBlocks p area = verifyingWith (package1 ∷ p ∷ package3 ∷ package4 ∷ []) 5 (bytes "ab" ++ area ++ bytes "defg" ++ replicate 2 0)
 
 -- the sum of a remove is any
 abbrev sumText : List ℕ
@@ -112,12 +108,12 @@ abbrev transferCalls : List (Case Start)
 transferCalls =
     -- "TransferStart(size) gives the next id, one above the last given.", behind the others
     from sessionIn verifying calls (transferStart 2 gives givenId 5 ∷ [])
-    ends verifyingWith (four ++ packageOf 5 2 0 0 transferring ∷ []) 6 bytesOfFour
+    ends verifyingWith (package1 ∷ package2 ∷ package3 ∷ package4 ∷ packageOf 5 2 0 0 transferring ∷ []) 6 bytesOfFour
     -- "The block is written directly behind the bytes received so far."
     ∷ from sessionIn verifying calls (transferData 2 2 (bytes "x") gives done ∷ [])
-    ends withBegun (packageOf 2 4 2 2 transferring) (bytes "cx" ++ replicate 2 0)
+    ends afterBlocks (packageOf 2 4 2 2 transferring) (bytes "cx" ++ replicate 2 0)
     ∷ from sessionIn verifying calls (transferData 2 2 (bytes "xy") gives done ∷ transferData 2 3 (bytes "z") gives done ∷ [])
-    ends withBegun (packageOf 2 4 4 3 transferring) (bytes "cxyz")
+    ends afterBlocks (packageOf 2 4 4 3 transferring) (bytes "cxyz")
     -- "TransferExit(id) checks the package: Transferred."
     ∷ from twoTexts idle transferring transferring none calls (transferExit 2 gives done ∷ [])
     ends twoTexts idle transferring transferred none
@@ -126,10 +122,10 @@ transferCalls =
     -- "Deleting moves later areas down whole and fills the bytes between the new and the old end of the last area with 0": of a
     -- Transferring package, of a Transferred one
     ∷ from sessionIn verifying calls (deleteTransfer 2 gives done ∷ [])
-    ends verifyingWith (packageOf 1 2 2 1 states.processed ∷ packageOf 3 1 1 1 states.processed ∷ waiting ∷ []) 5
+    ends verifyingWith (package1 ∷ package3 ∷ package4 ∷ []) 5
     (bytes "abdefg" ++ replicate 6 0)
     ∷ from sessionIn verifying calls (deleteTransfer 4 gives done ∷ [])
-    ends verifyingWith (packageOf 1 2 2 1 states.processed ∷ incomplete ∷ packageOf 3 1 1 1 states.processed ∷ []) 5
+    ends verifyingWith (package1 ∷ package2 ∷ package3 ∷ []) 5
     (bytes "abc" ++ replicate 3 0 ++ bytes "d" ++ replicate 5 0)
     ∷ []
 

@@ -139,26 +139,33 @@ unsoundIdle = idleWith (packageOf 1 4 2 1 transferring ∷ []) 2 3
 
 -- ---- a session of two packages
 
--- beside the two, of which the later was processed first, one is Transferring and one Transferred; two bytes are free
-abbrev pub incomplete : Package
-incomplete = packageOf 2 4 1 1 transferring
+-- beside the two, of which the later was processed first, one package is Transferring and one Transferred; two bytes are free
+abbrev pub package1 : Package
+package1 = packageOf 1 2 2 1 processed
 
-abbrev pub waiting : Package
-waiting = packageOf 4 3 3 2 transferred
+abbrev pub package2 : Package
+package2 = packageOf 2 4 1 1 transferring
 
-abbrev pub four : List Package
-four = packageOf 1 2 2 1 processed ∷ incomplete ∷ packageOf 3 1 1 1 processed ∷ waiting ∷ []
+abbrev pub package3 : Package
+package3 = packageOf 3 1 1 1 processed
+
+abbrev pub package4 : Package
+package4 = packageOf 4 3 3 2 transferred
 
 abbrev pub bytesOfFour : Store
 bytesOfFour = bytes "abc" ++ replicate 3 0 ++ bytes "defg" ++ replicate 2 0
 
--- the first needs what the second brings
+-- what is listed: the first needs what the second brings
 abbrev pub listedTwo : List Entry
 listedTwo = entry 3 (install dependent30) ∷ entry 1 (update updated20) ∷ []
 
 abbrev pub stagedTable : Table
 stagedTable = updated20 ∷ dependent30 ∷ []
 
+-- with other packages, next id, list and store, in a manager's state
+abbrev pub sessionWith : List Package → ℕ → List Entry → Store → Phase → Start
+sessionWith packages next listed store phase = start (state phase (transfers packages next) (session (cluster20 ∷ []) listed) none) store
+
 -- that session in a manager's state: any but Idle and Processing
 abbrev pub sessionIn : Phase → Start
-sessionIn phase = start (state phase (transfers four 5) (session (cluster20 ∷ []) listedTwo) none) bytesOfFour
+sessionIn = sessionWith (package1 ∷ package2 ∷ package3 ∷ package4 ∷ []) 5 listedTwo bytesOfFour

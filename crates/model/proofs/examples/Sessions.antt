@@ -1,7 +1,7 @@
--- Five sessions from a Load on, call by call: each call with its answer, the manager's state after it, and what the journal of demand 3
--- says then. They end by Finish from Activated, by Finish after a completed Rollback, by a Cancel of the only package, by Revert, and by
--- Finish again: a later session changes the table too. On the way every named failure is met, and refused calls change nothing. The store
--- takes what an earlier session had. Assumes nothing.
+-- Sessions from a Load on, call by call: each call with its answer, the manager's state after it, and what the journal of demand 3 says
+-- then. They end by Finish from Activated, by Finish after a completed Rollback, with no package processed (a cancel, another sum), by
+-- Revert, and by Finish again: a later session changes the table too. On the way every named failure is met, and refused calls change
+-- nothing. Packages take bytes that those of an earlier session had. Assumes nothing.
 use Prim.Native.Nat.{ℕ}
 use mathlib.Core.Path.{_≡_, refl}
 use mathlib.Core.Bool.{Bool, true, false}
@@ -14,7 +14,7 @@ use Rattle.clusters.specs.Cluster.{Cluster, cluster, need}
 use Rattle.clusters.specs.Table.{Table}
 use Rattle.actions.specs.Action.{Action, install, update}
 use Rattle.model.specs.State.{transferred, verifyingRollsBack, activatedRollsBack, readyCleansUp, activatedCleansUp, rolledBackCleansUp, Phase, idle, ready, processing, activating, verifying, activated, rollingBack, rolledBack, cleaningUp, State, Store, state}
-use Rattle.model.specs.Calls.{Call, transferStart, transferData, transferExit, deleteTransfer, process, work, cancel, revert, activate, rollback, finish, report, givenId, done, working, processed, cancelled, inconsistent, preActivationFailed, verificationFailed, notAbleToRollback, notAbleToRevert, cleaningFailed}
+use Rattle.model.specs.Calls.{Call, transferStart, transferData, transferExit, deleteTransfer, process, work, cancel, revert, activate, rollback, finish, report, givenId, done, working, processed, cancelled, inconsistent, preActivationFailed, missingDependencies, verificationFailed, notAbleToRollback, notAbleToRevert, cleaningFailed}
 use Rattle.model.specs.Step.{step}
 use Rattle.model.specs.Run.{Made, acceptedOnly}
 use Rattle.model.specs.Journal.{Direction, noDirection, toActivate, toRevert, toRollback, toFinish, Journal, opened, noted, journal}
@@ -64,11 +64,18 @@ played s store j (m ∷ rest) =
 -- ---- the sessions
 
 abbrev loaded : Start
-loaded = loadedWith 1 160
+loaded = loadedWith 1 240
 
 -- another sum than that of no bytes
 abbrev wrongSumText : List ℕ
 wrongSumText = packageText "remove,30,,0,1,," ""
+
+-- it needs a cluster that no table has
+abbrev needingText : List ℕ
+needingText = packageText "install,40,1.0.0.0,0,0,50,1.0.0.0" ""
+
+abbrev needing : Cluster
+needing = cluster 40 (version 1 0 0 0) (need 50 (version 1 0 0 0) ∷ [])
 
 abbrev installed : Cluster
 installed = cluster 30 (version 1 0 0 0) (need 20 (version 1 0 4 0) ∷ [])
@@ -133,7 +140,7 @@ secondSession =
     ++ undone toFinish 2 table1 table1 updating (cleaningUp rolledBackCleansUp) (finish gives done ∷ report false gives cleaningFailed ∷ [])
     ++ between toFinish 2 table1 table1 [] (report true gives done ∷ [])
 
--- no package processed: the first is cancelled, the second has another sum
+-- two sessions with no package processed: one is cancelled, one has another sum
 abbrev thirdSession : List Line
 thirdSession =
     between toFinish 2 table1 table1 [] (callsToTransfer 3 updateText ++ callsToTransfer 4 wrongSumText)
@@ -142,7 +149,7 @@ thirdSession =
     ++ during toFinish 4 table1 table1 [] processing (process 4 gives done ∷ [])
     ++ between toFinish 4 table1 table1 [] (work 0 gives inconsistent ∷ [])
 
--- the second package of this session fails; then all is reverted
+-- the second package of this session fails, and a need of the third is not met; then all is reverted
 abbrev fourthSession : List Line
 fourthSession =
     during toFinish 3 table1 table1 [] processing (process 3 gives done ∷ [])
@@ -150,27 +157,31 @@ fourthSession =
     ++ during toFinish 4 table1 table1 updating processing (process 4 gives done ∷ [])
     ++ during toFinish 4 table1 table1 updating ready (work 0 gives inconsistent ∷ [])
     ++ during toFinish 4 table1 table1 updating processing (process 4 gives done ∷ cancel 4 gives done ∷ [])
-    ++ during toFinish 4 table1 table1 updating ready (work 0 gives cancelled ∷ [])
-    ++ during toRevert 4 table1 table1 updating (cleaningUp readyCleansUp) (revert gives done ∷ [])
-    ++ between toRevert 4 table1 table1 [] (report true gives done ∷ [])
+    ++ during toFinish 4 table1 table1 updating ready (work 0 gives cancelled ∷ callsToTransfer 5 needingText)
+    ++ during toFinish 5 table1 table1 updating processing (process 5 gives done ∷ [])
+    ++ during toFinish 5 table1 table1 (updating ++ install needing ∷ []) ready (work 0 gives processed ∷ [])
+    ++ during toActivate 5 table1 table1 (updating ++ install needing ∷ []) activating (activate gives done ∷ [])
+    ++ during toActivate 5 table1 table1 (updating ++ install needing ∷ []) ready (report true gives missingDependencies ∷ [])
+    ++ during toRevert 5 table1 table1 (updating ++ install needing ∷ []) (cleaningUp readyCleansUp) (revert gives done ∷ [])
+    ++ between toRevert 5 table1 table1 [] (report true gives done ∷ [])
 
 abbrev fifthSession : List Line
 fifthSession =
-    between toRevert 4 table1 table1 [] (callsToTransfer 5 updateText)
-    ++ during toRevert 5 table1 table1 [] processing (process 5 gives done ∷ [])
-    ++ during toRevert 5 table1 table1 updating ready (work 3 gives processed ∷ [])
-    ++ during toActivate 5 table1 table1 updating activating (activate gives done ∷ [])
-    ++ during toActivate 5 table1 table2 updating verifying
+    between toRevert 5 table1 table1 [] (callsToTransfer 6 updateText)
+    ++ during toRevert 6 table1 table1 [] processing (process 6 gives done ∷ [])
+    ++ during toRevert 6 table1 table1 updating ready (work 3 gives processed ∷ [])
+    ++ during toActivate 6 table1 table1 updating activating (activate gives done ∷ [])
+    ++ during toActivate 6 table1 table2 updating verifying
     (report true gives done
-    ∷ transferStart 3 gives givenId 6
-    ∷ transferData 6 1 (bytes "ab") gives done
-    ∷ transferExit 6 isRefusedBy 8
-    ∷ transferData 6 2 (bytes "c") gives done
-    ∷ deleteTransfer 6 gives done
+    ∷ transferStart 3 gives givenId 7
+    ∷ transferData 7 1 (bytes "ab") gives done
+    ∷ transferExit 7 isRefusedBy 8
+    ∷ transferData 7 2 (bytes "c") gives done
+    ∷ deleteTransfer 7 gives done
     ∷ [])
-    ++ during toActivate 5 table1 table2 updating activated (report true gives done ∷ [])
-    ++ during toFinish 5 table1 table2 updating (cleaningUp activatedCleansUp) (finish gives done ∷ [])
-    ++ between toFinish 5 table2 table2 [] (report true gives done ∷ [])
+    ++ during toActivate 6 table1 table2 updating activated (report true gives done ∷ [])
+    ++ during toFinish 6 table1 table2 updating (cleaningUp activatedCleansUp) (finish gives done ∷ [])
+    ++ between toFinish 6 table2 table2 [] (report true gives done ∷ [])
 
 abbrev allSessions : List Line
 allSessions = firstSession ++ secondSession ++ thirdSession ++ fourthSession ++ fifthSession
@@ -182,7 +193,7 @@ transcript lines = map (λ l. l .made) lines
 abbrev joinedBlocks : List (List ℕ)
 joinedBlocks =
     let j = journal (opened table0) (transcript allSessions) in
-    map (λ id. j .blocks id) (1 ∷ 2 ∷ 3 ∷ 4 ∷ 5 ∷ 6 ∷ 7 ∷ [])
+    map (λ id. j .blocks id) (1 ∷ 2 ∷ 3 ∷ 4 ∷ 5 ∷ 6 ∷ 7 ∷ 8 ∷ [])
 
 -- whether the session goes on with these calls, once the first package is transferred
 abbrev goesOn : List Call → Bool
@@ -207,9 +218,9 @@ pub record Sessions : Type 0 where
   pub answers : played (loaded .state) (loaded .store) (opened table0) (transcript allSessions) ≡ allSessions
   -- each session's packages are gone from the store; the one that was never Processed is left, from byte 0 on
   pub leaves : (let r = after loaded (transcript allSessions) in start (r .state) (r .store))
-      ≡ start (state idle (transfers (packageOf 4 65 65 2 transferred ∷ []) 7) (session table2 []) none) (wrongSumText ++ replicate 95 0)
+      ≡ start (state idle (transfers (packageOf 4 65 65 2 transferred ∷ []) 8) (session table2 []) none) (wrongSumText ++ replicate 175 0)
   -- "its accepted blocks, joined", by id; those of deleted packages stay in the journal
-  pub blocks : joinedBlocks ≡ installText ∷ updateText ∷ updateText ∷ wrongSumText ∷ updateText ∷ bytes "abc" ∷ [] ∷ []
+  pub blocks : joinedBlocks ≡ installText ∷ updateText ∷ updateText ∷ wrongSumText ∷ needingText ∷ updateText ∷ bytes "abc" ∷ [] ∷ []
   -- "Its book sees each call and its answer, nothing of the state.": what a call does not name in it stays
   pub staysOtherwise : notesOf (journal (opened table0) madeUp)
       ≡ notes toActivate 2 false false table0 table1 (install installed ∷ update updated20 ∷ [])

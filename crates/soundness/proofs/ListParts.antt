@@ -22,7 +22,7 @@ use Rattle.state.specs.View.{viewPackages, entriesMost, viewEntry, clearedEntry
 use Rattle.state.proofs.Views.{packages-fit}
 use Rattle.listed_actions.specs.Listed.{entryId}
 use Rattle.soundness.specs.Parts.{countedEntries, plainId}
-use Rattle.soundness.proofs.Order.{reordered}
+use Rattle.soundness.proofs.Order.{numbers-first}
 
 -- ---- how many
 
@@ -70,13 +70,10 @@ module _ (entries : List EntryStruct) (count : ℕ) (long : length entries ≡ e
     abbrev phasePart : Bool
     phasePart = eqb (countIn isBeingProcessed ps) (cond (isProcessing phase) 1 0) && listFits phase listed
 
-    in-order : (many as-listed phase-fits : Bool) → (many && as-listed) && phase-fits ≡ many && (phase-fits && as-listed)
-    in-order many as-listed phase-fits = simp reordered
-
     parts : whole ≡ eqb count (countIn isProcessed ps) && (phasePart && processedAsListed listed ps)
     unfolding listSound processingSound
     parts =
-        in-order (eqb (length listed) (countIn isProcessed ps)) (processedAsListed listed ps) phasePart
+        numbers-first (eqb (length listed) (countIn isProcessed ps)) (processedAsListed listed ps) phasePart
         ∙ ap (λ (n : ℕ). eqb n (countIn isProcessed ps) && (phasePart && processedAsListed listed ps)) counted-length
 
     pub other-count : (count ≡ countIn isProcessed ps → ⊥) → false ≡ whole

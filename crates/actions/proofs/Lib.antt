@@ -7,3 +7,4 @@ pub mod Placing
 pub mod Answers
 pub mod Views
 pub mod Structs
+pub mod Examples

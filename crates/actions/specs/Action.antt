@@ -1,4 +1,4 @@
--- What a package does to a table.
+-- What actions do to a table: "The staged table is the session's beginning table with the listed actions applied".
 use Prim.Native.Nat.{ℕ}
 use mathlib.Core.Bool.{Bool, true, cond, _&&_}
 use mathlib.Core.List.{List, [], _∷_}
@@ -17,17 +17,17 @@ actionPart (install c) = c .part
 actionPart (update c) = c .part
 actionPart (remove part) = part
 
--- "install adds the cluster": before the first with a larger part number, so that the table stays in rising part number
+-- a cluster added, before the first with a larger part number: a table is "in rising part number"
 unfoldable pub insert : Cluster → Table → Table
 insert c [] = c ∷ []
 insert c (d ∷ t) = cond (ltb (c .part) (d .part)) (c ∷ d ∷ t) (d ∷ insert c t)
 
--- "update replaces both": version and needs, so the cluster in the place of the one with its part number
+-- version and needs replaced: a cluster in the place of the one with its part number
 unfoldable pub replace : Cluster → Table → Table
 replace c [] = []
 replace c (d ∷ t) = cond (eqb (c .part) (d .part)) (c ∷ replace c t) (d ∷ replace c t)
 
--- "remove takes the cluster out"
+-- the table without the cluster with a part number
 unfoldable pub takeOut : ℕ → Table → Table
 takeOut part [] = []
 takeOut part (d ∷ t) = cond (eqb part (d .part)) (takeOut part t) (d ∷ takeOut part t)
@@ -38,7 +38,7 @@ apply (install c) t = insert c t
 apply (update c) t = replace c t
 apply (remove part) t = takeOut part t
 
--- "with the listed actions applied": in order
+-- "with the listed actions applied", in their order
 unfoldable pub applyAll : Table → List Action → Table
 applyAll t [] = t
 applyAll t (a ∷ rest) = applyAll (apply a t) rest
@@ -49,6 +49,7 @@ actionWithin (install c) = clusterWithin c
 actionWithin (update c) = clusterWithin c
 actionWithin (remove part) = partWithin part
 
+-- each of these actions
 unfoldable pub actionsWithin : List Action → Bool
 actionsWithin [] = true
 actionsWithin (a ∷ rest) = actionWithin a && actionsWithin rest

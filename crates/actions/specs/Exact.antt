@@ -28,6 +28,7 @@ insertAt i c t = record {
 unfoldable pub insert : Cluster → Table → Table
 insert c t = insertAt (insertPlaceFrom 0 (c .part) (viewTable t)) c t
 
+-- a cluster in the place that was found
 abbrev pub replaceAt : Found → Cluster → Table → Table
 replaceAt (At i) c t = record { clusters = putAt i c (t .clusters); count = t .count }
 replaceAt Nothing c t = t
@@ -43,6 +44,7 @@ closeGap i t = record {
   count = t .count - 1;
 }
 
+-- the table without the cluster in the place that was found
 abbrev pub takeOutAt : Found → Table → Table
 takeOutAt (At i) t = closeGap i t
 takeOutAt Nothing t = t

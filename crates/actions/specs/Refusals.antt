@@ -10,7 +10,7 @@ use Rattle.clusters.specs.Version.{above}
 use Rattle.clusters.specs.Table.{Table, find, present, clustersMost}
 use Rattle.actions.specs.Action.{Action, install, update, remove, actionPart, apply}
 
--- some action of the list is about the cluster
+-- "11. ClusterTouched: Process; the session's list has the cluster."
 unfoldable pub touched : ℕ → List Action → Bool
 touched part [] = false
 touched part (a ∷ rest) = eqb part (actionPart a) || touched part rest
@@ -39,8 +39,7 @@ tableFull staged (install c) = leb clustersMost (length staged)
 tableFull staged (update c) = false
 tableFull staged (remove part) = false
 
--- the refusals 11 to 15 of an action on a staged table, after the session's listed actions. "11. ClusterTouched: Process;
--- the session's list has the cluster."
+-- 11 to 15 "in this order", of an action on a staged table after the session's listed actions
 unfoldable pub actionRefusals : Table → List Action → Action → List Refusal
 actionRefusals staged listed a =
     (refuse 11 when touched (actionPart a) listed)

@@ -7,6 +7,7 @@ use Rattle.actions.specs.declared.action.Change.the-variants.{Install, U
 use Rattle.actions.specs.declared.action.Action.{Action as ActionStruct}
 use Rattle.actions.specs.Action.{Action, install, update, remove}
 
+-- an action's struct
 unfoldable pub structAction : Action → ActionStruct
 structAction (install c) = record { change = Install; cluster = structCluster c }
 structAction (update c) = record { change = Update; cluster = structCluster c }

@@ -12,5 +12,6 @@ actionOf Install c = install c
 actionOf Update c = update c
 actionOf Remove c = remove (c .part)
 
+-- the action that a struct stands for
 abbrev pub viewAction : ActionStruct → Action
 viewAction a = actionOf (a .change) (viewCluster (a .cluster))

@@ -1,11 +1,13 @@
 -- What is found in the columns of a table is what is found in the table, and how a loop fills a column. Assumes nothing.
-use Prim.Native.Nat.{ℕ, _+_, _<_}
+use Prim.Native.Nat.{ℕ, suc, _+_, _<_}
 use mathlib.Core.Path.{_≡_, refl, sym, ap, _∙_}
+use mathlib.Core.Bool.{Bool, true, false, cond}
 use mathlib.Core.List.{List, [], _∷_, map, map-append}
 use mathlib.Core.Option.{none, some}
 use native.Mathlib.Numerals.{add-one}
 use native.Mathlib.Omega.{arith}
-use lib.ListN.{length, take, getD, set, List·getD-map}
+use lib.Dec.{eqb}
+use lib.ListN.{length, take, getD, set, length-take, List·getD-map}
 use lib.Seq.{getD-take, take-suc, take-suc-set}
 use Rattle.text.specs.declared.version.Version.{Version}
 use Rattle.clusters.specs.declared.table.Found.the-variants.{At, Nothing}
@@ -27,6 +29,20 @@ pub map-twice : {A B C : Type 0} (f : A → B) (g : B → C) (xs : List A) → m
 map-twice f g [] = refl
 map-twice f g (x ∷ xs) = ap (λ (l : List _). g (f x) ∷ l) (map-twice f g xs)
 
+-- ---- the place that is found is one of those that count
+
+place-low : (base part : ℕ) (parts : List ℕ) (i : ℕ) → placeAmong base part parts ≡ At i → i < base + length parts
+unfolding placeAmong
+place-low base part [] i e = let z : _≡_ {A = ℕ} 0 1 = cc in absurd (omega arith)
+place-low base part (p ∷ parts) i e = go (eqb part p) e (place-low (base + 1) part parts i)
+  where
+    go : (b : Bool) → cond b (At base) (placeAmong (base + 1) part parts) ≡ At i → (placeAmong (base + 1) part parts ≡ At i → i < base + 1 + length parts) → i < base + suc (length parts)
+    go true e ih = let s : base ≡ i = cc in omega arith
+    go false e ih = omega (arith, ih e)
+
+pub place-below : (part count : ℕ) (parts : List ℕ) (i : ℕ) → placeAmong 0 part (take count parts) ≡ At i → i < count
+place-below part count parts i e = omega (arith, place-low 0 part (take count parts) i e, length-take count parts)
+
 -- ---- what is found in the columns is what is found in the table
 
 module _ (columns : Columns) (t : Table) (of : ColumnsOf columns t) (part : ℕ) where
@@ -38,7 +54,6 @@ module _ (columns : Columns) (t : Table) (of : ColumnsOf columns t) (part : ℕ)
 
   -- the cluster with the part number is found, and its version stands at the same place
   pub record FoundAmong (i : ℕ) (v : Version) : Type 0 where
-    pub below : i < columns .count
     pub found : Cluster
     pub there : find part t ≡ some found
     pub same-version : getD (columns .versions) i v ≡ found .version
@@ -47,9 +62,8 @@ module _ (columns : Columns) (t : Table) (of : ColumnsOf columns t) (part : ℕ)
   found-among i v e =
       let d = cluster 0 v [] in
       let p = place-says part t i d (sym same-place ∙ e) in
-      let l : i < columns .count = omega (arith, p .below, of .size) in
+      let l = place-below part (columns .count) (columns .parts) i e in
       record {
-        below = l;
         found = getD t i d;
         there = p .there;
         same-version = sym (getD-take (columns .count) (columns .versions) i v l) ∙ ap (λ (versions : List Version). getD versions i v) (of .versions) ∙ List·getD-map versionOf t i d;

@@ -7,3 +7,5 @@ pub mod Placing
 pub mod ColumnLaws
 pub mod Views
 pub mod Structs
+pub mod Cases
+pub mod Examples

@@ -14,6 +14,7 @@ pub record Cluster : Type 0 where
   pub version : Version
   pub needs : List Need
 
+-- the cluster, and the need, of these parts
 abbrev pub cluster : ℕ → Version → List Need → Cluster
 cluster part version needs = record { part = part; version = version; needs = needs }
 
@@ -28,9 +29,11 @@ withNeed c n = cluster (c .part) (c .version) (c .needs ++ n ∷ [])
 unfoldable pub partWithin : ℕ → Bool
 partWithin part = leb 1 part && leb part 4294967295
 
+-- a need's part number and least version within their limits
 unfoldable pub needWithin : Need → Bool
 needWithin n = partWithin (n .part) && versionWithin (n .least)
 
+-- each of these needs
 unfoldable pub needsWithin : List Need → Bool
 needsWithin [] = true
 needsWithin (n ∷ ns) = needWithin n && needsWithin ns
@@ -39,5 +42,6 @@ needsWithin (n ∷ ns) = needWithin n && needsWithin ns
 abbrev pub needsMost : ℕ
 needsMost = 4
 
+-- "a part number .., a version, and 0 to 4 needs", all within their limits
 unfoldable pub clusterWithin : Cluster → Bool
 clusterWithin c = partWithin (c .part) && (versionWithin (c .version) && (leb (length (c .needs)) needsMost && needsWithin (c .needs)))

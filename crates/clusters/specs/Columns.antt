@@ -9,6 +9,7 @@ use Rattle.clusters.specs.Cluster.{Cluster}
 use Rattle.clusters.specs.Table.{Table, clustersMost}
 use Rattle.clusters.specs.Place.{partOf}
 
+-- the column of versions has this of each cluster
 abbrev pub versionOf : Cluster → Version
 versionOf c = c .version
 

@@ -27,6 +27,7 @@ withNeed c n = record { part = c .part; version = c .version; needs = putAt (c .
 
 -- ---- tables
 
+-- a table with no clusters
 unfoldable pub emptyTable : Table
 emptyTable = record { clusters = replicate clustersMost clearedCluster; count = 0 }
 

@@ -15,6 +15,7 @@ unfoldable pub placeAmong : ℕ → ℕ → List ℕ → Found
 placeAmong i part [] = Nothing
 placeAmong i part (p ∷ parts) = cond (eqb part p) (At i) (placeAmong (i + 1) part parts)
 
+-- the column of part numbers has this of each cluster
 abbrev pub partOf : Cluster → ℕ
 partOf c = c .part
 
@@ -22,6 +23,7 @@ partOf c = c .part
 abbrev pub placeFrom : ℕ → ℕ → Table → Found
 placeFrom i part t = placeAmong i part (map partOf t)
 
+-- the place of the cluster with a part number in a table
 abbrev pub placeOf : ℕ → Table → Found
 placeOf part t = placeFrom 0 part t
 

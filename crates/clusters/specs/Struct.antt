@@ -12,12 +12,15 @@ use Rattle.clusters.specs.View.{noVersion, noNeed}
 abbrev pub padded : {A : Type 0} → ℕ → A → List A → List A
 padded most cleared elements = elements ++ replicate (most - length elements) cleared
 
+-- a cluster's struct
 unfoldable pub structCluster : Cluster → ClusterStruct
 structCluster c =
     record { part = c .part; version = c .version; needs = padded needsMost noNeed (c .needs); «need_count» = length (c .needs) }
 
+-- what stands in an unused place of a table
 abbrev pub clearedCluster : ClusterStruct
 clearedCluster = record { part = 0; version = noVersion; needs = replicate needsMost noNeed; «need_count» = 0 }
 
+-- a table's struct
 unfoldable pub structTable : Table → TableStruct
 structTable t = record { clusters = padded clustersMost clearedCluster (map structCluster t); count = length t }

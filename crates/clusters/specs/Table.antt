@@ -18,6 +18,7 @@ unfoldable pub find : ℕ → Table → Option Cluster
 find part [] = none
 find part (c ∷ t) = cond (eqb part (c .part)) (some c) (find part t)
 
+-- a table "holds that cluster"
 unfoldable pub present : ℕ → Table → Bool
 present part t = elim (find part t) [ none ↦ false | some c ↦ true ]
 
@@ -25,6 +26,7 @@ present part t = elim (find part t) [ none ↦ false | some c ↦ true ]
 unfoldable pub meets : Table → Need → Bool
 meets t n = elim (find (n .part) t) [ none ↦ false | some c ↦ atOrAbove (c .version) (n .least) ]
 
+-- each of these needs is met by the table
 unfoldable pub meetsAll : Table → List Need → Bool
 meetsAll t [] = true
 meetsAll t (n ∷ ns) = meets t n && meetsAll t ns

@@ -19,8 +19,10 @@ noNeed = need 0 noVersion
 abbrev pub noCluster : ClusterStruct
 noCluster = record { part = 0; version = noVersion; needs = []; «need_count» = 0 }
 
+-- the needs that count
 abbrev pub viewCluster : ClusterStruct → Cluster
 viewCluster c = cluster (c .part) (c .version) (counted needsMost noNeed (c .«need_count») (c .needs))
 
+-- the clusters that count
 abbrev pub viewTable : TableStruct → Table
 viewTable t = map viewCluster (counted clustersMost noCluster (t .count) (t .clusters))

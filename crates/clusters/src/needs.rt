@@ -1,39 +1,44 @@
-// Whether a table meets needs. What is required of a table and its clusters is met by the check of their limits.
+// Whether a table meets needs. The table's columns are taken out once, and the needs are looked up in them. What is required of
+// a table and its clusters is met by the check of their limits.
 use crate::cluster::Cluster;
 use crate::cluster::Need;
+use crate::columns::Columns;
+use crate::columns::columns_of;
+use crate::columns::place_of;
 use crate::table::Found;
 use crate::table::Table;
-use crate::table::find;
 use crate::version::at_or_above;
 ghost use mathlib.Core.Path.{_≡_};
 ghost use mathlib.Core.Bool.{true};
 ghost use Prim.Native.Nat.{_≤_};
 ghost use Rattle.clusters.specs.Cluster.{needsMost};
-ghost use Rattle.clusters.specs.Table.{meets, meetsAll, needsMet, tableWithin, clustersMost};
+ghost use Rattle.clusters.specs.Table.{Table as PlainTable, meets, meetsAll, needsMet, tableWithin, clustersMost};
 ghost use Rattle.clusters.specs.View.{viewCluster, viewTable};
+ghost use Rattle.clusters.specs.Columns.{ColumnsOf};
 
-// Whether the table holds the needed cluster at the least version or above.
-pub fn meets(t: Table, n: Need) -> bool
-    requires { ⌜ t .count ≤ clustersMost ⌝ }
-    ensures { λ r. ⌜ r ≡ meets (viewTable t) n ⌝ }
+// Whether the table with these columns holds the needed cluster at the least version or above.
+fn meets_in(columns: Columns, n: Need) -> bool
+    requires { ⌜ columns .count ≤ clustersMost ⌝ }
+    ensures { λ r. ⌜ ((t : PlainTable) → ColumnsOf columns t → r ≡ meets t n) ⌝ }
 {
-    let Found::At(i) = find(t, n.part) else {
+    let count = columns.count;
+    let Found::At(i) = place_of(&columns.parts, count, n.part) else {
         return false;
     };
-    let c = t.clusters[i];
-    at_or_above(c.version, n.least)
+    let version = columns.versions[i];
+    at_or_above(version, n.least)
 }
 
-// Whether the table meets each need of one cluster.
-pub fn meets_all(t: Table, c: Cluster) -> bool
-    requires { ⌜ (t .count ≤ clustersMost) × (c .«need_count» ≤ needsMost) ⌝ }
-    ensures { λ r. ⌜ r ≡ meetsAll (viewTable t) (viewCluster c .needs) ⌝ }
+// Whether the table with these columns meets each need of one cluster.
+fn meets_all_in(columns: Columns, c: Cluster) -> bool
+    requires { ⌜ (columns .count ≤ clustersMost) × (c .«need_count» ≤ needsMost) ⌝ }
+    ensures { λ r. ⌜ ((t : PlainTable) → ColumnsOf columns t → r ≡ meetsAll t (viewCluster c .needs)) ⌝ }
 {
     let count = c.need_count;
     let mut i = 0;
     while i < count {
         let n = c.needs[i];
-        if !meets(t, n) {
+        if !meets_in(columns, n) {
             return false;
         }
         i += 1;
@@ -41,16 +46,26 @@ pub fn meets_all(t: Table, c: Cluster) -> bool
     true
 }
 
+// Whether the table holds the needed cluster at the least version or above.
+pub fn meets(t: Table, n: Need) -> bool
+    requires { ⌜ t .count ≤ clustersMost ⌝ }
+    ensures { λ r. ⌜ r ≡ meets (viewTable t) n ⌝ }
+{
+    let columns = columns_of(t);
+    meets_in(columns, n)
+}
+
 // Whether the table meets each need of each of its clusters.
 pub fn needs_met(t: Table) -> bool
     requires { ⌜ tableWithin (viewTable t) ≡ true ⌝ }
     ensures { λ r. ⌜ r ≡ needsMet (viewTable t) ⌝ }
 {
+    let columns = columns_of(t);
     let count = t.count;
     let mut i = 0;
     while i < count {
         let c = t.clusters[i];
-        if !meets_all(t, c) {
+        if !meets_all_in(columns, c) {
             return false;
         }
         i += 1;

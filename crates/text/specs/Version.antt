@@ -14,6 +14,7 @@ use Rattle.text.specs.Number.{numberAt}
 use Rattle.text.specs.Digits.{digits}
 use Rattle.text.specs.Then.{andThen, andThenVersion}
 
+-- the version of these parts, from the left
 abbrev pub version : ℕ → ℕ → ℕ → ℕ → Version
 version first second third fourth = record { first = first; second = second; third = third; fourth = fourth }
 

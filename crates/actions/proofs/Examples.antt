@@ -1,0 +1,251 @@
+-- The rules of the definitions by computation, each at its limits from both sides: a table of cases for each. Assumes nothing.
+use Prim.Native.Nat.{ℕ}
+use mathlib.Core.Path.{_≡_, refl}
+use mathlib.Core.Bool.{Bool, true, false, cond, not, _&&_}
+use mathlib.Core.List.{List, [], _∷_}
+use mathlib.Core.Option.{Option, none, some}
+use Rattle.base.specs.Refusals.{Refusal, firstRefusal, noneApplies}
+use Rattle.text.specs.Version.{version, versionWithin}
+use Rattle.clusters.specs.Version.{above}
+use Rattle.clusters.specs.Cluster.{Cluster, cluster, need, partWithin, needsWithin, clusterWithin}
+use Rattle.clusters.specs.Table.{Table, find, present}
+use Rattle.clusters.proofs.Cases.{_gives_, Hold}
+use Rattle.clusters.proofs.Examples.{plain, plainTo}
+use Rattle.actions.specs.declared.action.Change.the-variants.{Install, Update, Remove}
+use Rattle.actions.specs.Action.{Action, install, update, remove, insert, replace, takeOut, apply, applyAll, actionWithin, actionsWithin}
+use Rattle.actions.specs.Refusals.{touched, clusterPresent, clusterAbsent, oldVersion, tableFull, actionRefusals, actionRefusal, passes, passInTurn}
+use Rattle.actions.specs.View.{actionOf}
+
+-- ---- what an action does to a table
+
+abbrev three : Table
+three = plain 10 ∷ plain 20 ∷ plain 30 ∷ []
+
+-- another version and needs than those in the table
+abbrev newer : ℕ → Cluster
+newer part = cluster part (version 1 0 4 1) (need 20 (version 1 0 4 0) ∷ [])
+
+-- "install adds the cluster with the package's version and needs"
+pub inserted : Hold (λ part. insert (newer part) three) (
+    5 gives (newer 5 ∷ three)
+    ∷ 15 gives (plain 10 ∷ newer 15 ∷ plain 20 ∷ plain 30 ∷ [])
+    ∷ 25 gives (plain 10 ∷ plain 20 ∷ newer 25 ∷ plain 30 ∷ [])
+    ∷ 35 gives (plain 10 ∷ plain 20 ∷ plain 30 ∷ newer 35 ∷ [])
+    ∷ [])
+unfolding insert
+inserted = refl
+
+pub insertedFirst : insert (newer 10) [] ≡ newer 10 ∷ []
+unfolding insert
+insertedFirst = refl
+
+-- "update replaces both"; one that is not there changes nothing
+pub replaced : Hold (λ part. replace (newer part) three) (
+    10 gives (newer 10 ∷ plain 20 ∷ plain 30 ∷ [])
+    ∷ 20 gives (plain 10 ∷ newer 20 ∷ plain 30 ∷ [])
+    ∷ 30 gives (plain 10 ∷ plain 20 ∷ newer 30 ∷ [])
+    ∷ 15 gives three
+    ∷ [])
+unfolding replace
+replaced = refl
+
+-- "remove takes the cluster out"
+pub takenOut : Hold (λ part. takeOut part three) (
+    10 gives (plain 20 ∷ plain 30 ∷ [])
+    ∷ 20 gives (plain 10 ∷ plain 30 ∷ [])
+    ∷ 30 gives (plain 10 ∷ plain 20 ∷ [])
+    ∷ 15 gives three
+    ∷ [])
+unfolding takeOut
+takenOut = refl
+
+-- each action, and actions in order
+pub applied : Hold (applyAll three) (
+    [] gives three
+    ∷ (install (newer 15) ∷ []) gives insert (newer 15) three
+    ∷ (update (newer 20) ∷ []) gives replace (newer 20) three
+    ∷ (remove 20 ∷ []) gives takeOut 20 three
+    ∷ (install (plain 15) ∷ update (newer 15) ∷ remove 10 ∷ []) gives (newer 15 ∷ plain 20 ∷ plain 30 ∷ [])
+    ∷ (remove 20 ∷ install (newer 20) ∷ []) gives (plain 10 ∷ newer 20 ∷ plain 30 ∷ [])
+    ∷ [])
+unfolding insert replace takeOut apply applyAll
+applied = refl
+
+-- the limits of a cluster for an install and an update, of a part number for a remove
+pub actionLimits : Hold actionWithin (
+    install (plain 1) gives true
+    ∷ install (plain 0) gives false
+    ∷ update (plain 1) gives true
+    ∷ update (cluster 1 (version 0 0 0 65536) []) gives false
+    ∷ remove 1 gives true
+    ∷ remove 4294967295 gives true
+    ∷ remove 0 gives false
+    ∷ remove 4294967296 gives false
+    ∷ [])
+unfolding versionWithin partWithin needsWithin clusterWithin actionWithin
+actionLimits = refl
+
+pub listLimits : Hold actionsWithin (
+    [] gives true
+    ∷ (remove 1 ∷ remove 2 ∷ []) gives true
+    ∷ (remove 0 ∷ remove 2 ∷ []) gives false
+    ∷ (remove 1 ∷ remove 0 ∷ []) gives false
+    ∷ [])
+unfolding partWithin actionWithin actionsWithin
+listLimits = refl
+
+-- the three changes
+pub changes : Hold (λ change. actionOf change (newer 10)) (
+    Install gives install (newer 10)
+    ∷ Update gives update (newer 10)
+    ∷ Remove gives remove 10
+    ∷ [])
+changes = refl
+
+-- ---- 11 to 15
+
+-- some action of the list is about the cluster
+pub listTouches : Hold (λ part. touched part (install (plain 10) ∷ update (plain 20) ∷ remove 30 ∷ [])) (
+    10 gives true
+    ∷ 20 gives true
+    ∷ 30 gives true
+    ∷ 15 gives false
+    ∷ [])
+unfolding touched
+listTouches = refl
+
+-- an action on a staged table, after listed actions
+record Asked : Type 0 where
+  staged : Table
+  listed : List Action
+  action : Action
+
+abbrev asked : Table → List Action → Action → Asked
+asked staged listed action = record { staged = staged; listed = listed; action = action }
+
+-- the number that it is refused with, or 0, all the numbers that apply, and whether it passes
+record Answered : Type 0 where
+  first : ℕ
+  all : List ℕ
+  passing : Bool
+
+abbrev applying : List Refusal → List ℕ
+applying [] = []
+applying (r ∷ rs) = let rest = applying rs in cond (r .applies) (r .number ∷ rest) rest
+
+abbrev answered : Asked → Answered
+answered q = record {
+  first = actionRefusal (q .staged) (q .listed) (q .action);
+  all = applying (actionRefusals (q .staged) (q .listed) (q .action));
+  passing = passes (q .staged) (q .listed) (q .action);
+}
+
+abbrev accepted : Answered
+accepted = record { first = 0; all = []; passing = true }
+
+-- refused by a number, with those behind it that apply too
+abbrev refusedBy : ℕ → List ℕ → Answered
+refusedBy first others = record { first = first; all = first ∷ others; passing = false }
+
+-- the cluster one version below the staged one
+abbrev older : ℕ → Cluster
+older part = cluster part (version 1 0 3 65535) []
+
+abbrev full : Table
+full = plainTo 64
+
+-- each of 11 to 15 alone, at its limits, and each two that can apply at once
+pub refusals : Hold answered (
+    -- 11
+    asked three (update (plain 20) ∷ []) (remove 20) gives refusedBy 11 []
+    ∷ asked three (update (plain 20) ∷ []) (remove 10) gives accepted
+    -- 12
+    ∷ asked three [] (install (plain 20)) gives refusedBy 12 []
+    ∷ asked three [] (install (plain 15)) gives accepted
+    -- 13
+    ∷ asked three [] (update (plain 15)) gives refusedBy 13 []
+    ∷ asked three [] (remove 15) gives refusedBy 13 []
+    ∷ asked three [] (remove 20) gives accepted
+    -- 14: one version below, the same, one above
+    ∷ asked three [] (update (older 20)) gives refusedBy 14 []
+    ∷ asked three [] (update (plain 20)) gives refusedBy 14 []
+    ∷ asked three [] (update (newer 20)) gives accepted
+    -- 15: an install, and only that
+    ∷ asked (plainTo 63) [] (install (plain 65)) gives accepted
+    ∷ asked full [] (install (plain 65)) gives refusedBy 15 []
+    ∷ asked full [] (update (newer 64)) gives accepted
+    ∷ asked full [] (remove 64) gives accepted
+    -- two and three at once
+    ∷ asked three (install (plain 20) ∷ []) (install (plain 20)) gives refusedBy 11 (12 ∷ [])
+    ∷ asked three (remove 15 ∷ []) (update (plain 15)) gives refusedBy 11 (13 ∷ [])
+    ∷ asked three (remove 15 ∷ []) (remove 15) gives refusedBy 11 (13 ∷ [])
+    ∷ asked three (update (plain 20) ∷ []) (update (plain 20)) gives refusedBy 11 (14 ∷ [])
+    ∷ asked full (remove 65 ∷ []) (install (plain 65)) gives refusedBy 11 (15 ∷ [])
+    ∷ asked full [] (install (plain 64)) gives refusedBy 12 (15 ∷ [])
+    ∷ asked full (install (plain 64) ∷ []) (install (plain 64)) gives refusedBy 11 (12 ∷ 15 ∷ [])
+    ∷ [])
+unfolding firstRefusal noneApplies above find present touched clusterPresent clusterAbsent oldVersion tableFull actionRefusals actionRefusal passes
+refusals = refl
+
+-- no other two apply at once
+pub record Excluded (t : Table) (a : Action) : Type 0 where
+  pub presentAbsent : clusterPresent t a && clusterAbsent t a ≡ false
+  pub presentOld : clusterPresent t a && oldVersion t a ≡ false
+  pub absentOld : clusterAbsent t a && oldVersion t a ≡ false
+  pub absentFull : clusterAbsent t a && tableFull t a ≡ false
+  pub oldFull : oldVersion t a && tableFull t a ≡ false
+
+and-no : (b : Bool) → b && false ≡ false
+and-no true = refl
+and-no false = refl
+
+absent-not-old : (t : Table) (c : Cluster) → not (present (c .part) t) && oldVersion t (update c) ≡ false
+unfolding present oldVersion
+absent-not-old t c = go (find (c .part) t)
+  where
+    go : (o : Option Cluster) → not (elim o as (λ x. Bool) [ none ↦ false | some d ↦ true ]) && (elim o as (λ x. Bool) [ none ↦ false | some d ↦ not (above (c .version) (d .version)) ]) ≡ false
+    go none = refl
+    go (some d) = refl
+
+pub excluded : (t : Table) (a : Action) → Excluded t a
+unfolding clusterPresent clusterAbsent oldVersion tableFull
+excluded t (install c) =
+    let no = and-no (present (c .part) t) in
+    record { presentAbsent = no; presentOld = no; absentOld = refl; absentFull = refl; oldFull = refl }
+excluded t (update c) =
+    record {
+      presentAbsent = refl;
+      presentOld = refl;
+      absentOld = absent-not-old t c;
+      absentFull = and-no (not (present (c .part) t));
+      oldFull = and-no (oldVersion t (update c));
+    }
+excluded t (remove part) =
+    let no = and-no (not (present part t)) in
+    record { presentAbsent = refl; presentOld = refl; absentOld = no; absentFull = no; oldFull = refl }
+
+-- ---- in turn
+
+-- actions on a table, after listed actions
+abbrev inTurn : Table × List Action × List Action → Bool
+inTurn q = passInTurn (q .0) (q .1) (q .2)
+
+-- "pass 11 to 15 in turn": each after those before it
+pub turns : Hold inTurn (
+    (three, [], []) gives true
+    ∷ (three, [], update (newer 20) ∷ remove 30 ∷ install (plain 15) ∷ []) gives true
+    -- each is refused by itself: the first, the last
+    ∷ (three, [], update (plain 20) ∷ remove 30 ∷ []) gives false
+    ∷ (three, [], remove 30 ∷ update (plain 20) ∷ []) gives false
+    -- the same cluster twice, in the list and before it
+    ∷ (three, [], update (newer 20) ∷ remove 20 ∷ []) gives false
+    ∷ (three, [], install (plain 15) ∷ remove 10 ∷ update (newer 15) ∷ []) gives false
+    ∷ (three, remove 20 ∷ [], update (newer 20) ∷ []) gives false
+    -- the table after those before: full, and with room again
+    ∷ (plainTo 63, [], install (plain 64) ∷ []) gives true
+    ∷ (plainTo 63, [], install (plain 64) ∷ install (plain 65) ∷ []) gives false
+    ∷ (full, [], remove 1 ∷ install (plain 65) ∷ []) gives true
+    ∷ (full, [], install (plain 65) ∷ remove 1 ∷ []) gives false
+    ∷ [])
+unfolding noneApplies above find present insert replace takeOut apply touched clusterPresent clusterAbsent oldVersion tableFull actionRefusals passes passInTurn
+turns = refl

@@ -1,0 +1,186 @@
+-- The rules of the definitions by computation, each at its limits from both sides: a table of cases for each. Assumes nothing.
+use Prim.Native.Nat.{ℕ, zero, suc, _+_}
+use mathlib.Core.Path.{refl}
+use mathlib.Core.Bool.{Bool, true, false}
+use mathlib.Core.List.{List, [], _∷_}
+use mathlib.Core.Option.{Option, none, some}
+use lib.ListN.{replicate}
+use Rattle.text.specs.declared.version.Version.{Version}
+use Rattle.text.specs.Version.{version, versionWithin}
+use Rattle.clusters.specs.declared.cluster.Need.{Need}
+use Rattle.clusters.specs.declared.table.Found.{Found}
+use Rattle.clusters.specs.declared.table.Found.the-variants.{At, Nothing}
+use Rattle.clusters.specs.Version.{above, atOrAbove}
+use Rattle.clusters.specs.Cluster.{Cluster, cluster, need, partWithin, needWithin, needsWithin, clusterWithin}
+use Rattle.clusters.specs.Table.{Table, find, present, meets, meetsAll, needsMetOf, needsMet, risingAbove, tableWithin}
+use Rattle.clusters.specs.Place.{placeAmong, placeOf}
+use Rattle.clusters.proofs.Cases.{_gives_, Hold}
+
+-- ---- versions
+
+-- "four parts of 0 to 65,535"
+pub versionLimits : Hold versionWithin (
+    version 0 0 0 0 gives true
+    ∷ version 65535 65535 65535 65535 gives true
+    ∷ version 65536 0 0 0 gives false
+    ∷ version 0 65536 0 0 gives false
+    ∷ version 0 0 65536 0 gives false
+    ∷ version 0 0 0 65536 gives false
+    ∷ [])
+unfolding versionWithin
+versionLimits = refl
+
+-- whether the first is above the second, and the second above the first
+abbrev aboveEitherWay : Version × Version → Bool × Bool
+aboveEitherWay p = (above (p .0) (p .1), above (p .1) (p .0))
+
+-- "compared part by part from the left"
+pub comparisons : Hold aboveEitherWay (
+    (version 2 0 0 0, version 1 9 9 9) gives (true, false)
+    ∷ (version 1 2 0 0, version 1 1 9 9) gives (true, false)
+    ∷ (version 1 1 2 0, version 1 1 1 9) gives (true, false)
+    ∷ (version 1 1 1 2, version 1 1 1 1) gives (true, false)
+    ∷ (version 1 0 0 10, version 1 0 0 9) gives (true, false)
+    ∷ (version 1 2 3 4, version 1 2 3 4) gives (false, false)
+    ∷ [])
+unfolding above
+comparisons = refl
+
+-- "at the least version or above", which is the second
+pub leastVersions : Hold (λ (p : Version × Version). atOrAbove (p .0) (p .1)) (
+    (version 1 0 4 0, version 1 0 4 0) gives true
+    ∷ (version 1 0 4 1, version 1 0 4 0) gives true
+    ∷ (version 1 0 3 65535, version 1 0 4 0) gives false
+    ∷ [])
+unfolding above atOrAbove
+leastVersions = refl
+
+-- ---- clusters
+
+-- "a part number 1 to 4,294,967,295"
+pub partLimits : Hold partWithin (0 gives false ∷ 1 gives true ∷ 4294967295 gives true ∷ 4294967296 gives false ∷ [])
+unfolding partWithin
+partLimits = refl
+
+abbrev lowest : Version
+lowest = version 0 0 0 0
+
+abbrev highest : Version
+highest = version 65535 65535 65535 65535
+
+abbrev tooHigh : Version
+tooHigh = version 0 0 0 65536
+
+-- a need within the limits, and needs whose part number and whose version is not
+abbrev fineNeed : Need
+fineNeed = need 4294967295 highest
+
+abbrev partLow : Need
+partLow = need 0 lowest
+
+abbrev leastHigh : Need
+leastHigh = need 1 tooHigh
+
+pub needLimits : Hold needWithin (fineNeed gives true ∷ partLow gives false ∷ leastHigh gives false ∷ [])
+unfolding versionWithin partWithin needWithin
+needLimits = refl
+
+-- "a part number .., a version, and 0 to 4 needs"
+pub clusterLimits : Hold clusterWithin (
+    cluster 1 lowest [] gives true
+    ∷ cluster 4294967295 highest (replicate 4 fineNeed) gives true
+    ∷ cluster 1 lowest (replicate 5 fineNeed) gives false
+    ∷ cluster 0 lowest [] gives false
+    ∷ cluster 1 tooHigh [] gives false
+    ∷ cluster 1 lowest (partLow ∷ fineNeed ∷ []) gives false
+    ∷ cluster 1 lowest (fineNeed ∷ fineNeed ∷ fineNeed ∷ leastHigh ∷ []) gives false
+    ∷ [])
+unfolding versionWithin partWithin needWithin needsWithin clusterWithin
+clusterLimits = refl
+
+-- ---- tables
+
+-- a cluster at 1.0.4.0 without needs
+abbrev pub plain : ℕ → Cluster
+plain part = cluster part (version 1 0 4 0) []
+
+abbrev plainFrom : ℕ → ℕ → Table
+plainFrom part zero = []
+plainFrom part (suc n) = plain part ∷ plainFrom (part + 1) n
+
+-- the clusters 1 to n
+abbrev pub plainTo : ℕ → Table
+plainTo n = plainFrom 1 n
+
+-- "at most 64 clusters in rising part number"
+pub tableLimits : Hold tableWithin (
+    [] gives true
+    ∷ plainTo 64 gives true
+    ∷ plainTo 65 gives false
+    ∷ (plain 10 ∷ plain 11 ∷ plain 12 ∷ []) gives true
+    ∷ (plain 10 ∷ plain 11 ∷ plain 11 ∷ []) gives false
+    ∷ (plain 10 ∷ plain 11 ∷ plain 10 ∷ []) gives false
+    ∷ (plain 10 ∷ plain 10 ∷ plain 11 ∷ []) gives false
+    ∷ (plain 0 ∷ plain 1 ∷ []) gives false
+    ∷ (plain 10 ∷ cluster 11 tooHigh [] ∷ []) gives false
+    ∷ [])
+unfolding versionWithin partWithin needWithin needsWithin clusterWithin risingAbove tableWithin
+tableLimits = refl
+
+abbrev three : Table
+three = plain 10 ∷ cluster 20 lowest (fineNeed ∷ []) ∷ plain 30 ∷ []
+
+-- what is found of a part number, whether it is present, and its place
+abbrev lookedUp : ℕ → Option Cluster × Bool × Found
+lookedUp part = (find part three, present part three, placeOf part three)
+
+pub found : Hold lookedUp (
+    10 gives (some (plain 10), true, At 0)
+    ∷ 20 gives (some (cluster 20 lowest (fineNeed ∷ [])), true, At 1)
+    ∷ 30 gives (some (plain 30), true, At 2)
+    ∷ 0 gives (none, false, Nothing)
+    ∷ 15 gives (none, false, Nothing)
+    ∷ 31 gives (none, false, Nothing)
+    ∷ [])
+unfolding find present placeAmong
+found = refl
+
+-- ---- needs
+
+-- "met by a table that holds that cluster at the least version or above"
+pub met : Hold (meets three) (
+    need 10 (version 1 0 4 0) gives true
+    ∷ need 10 (version 1 0 4 1) gives false
+    ∷ need 10 lowest gives true
+    ∷ need 20 lowest gives true
+    ∷ need 20 (version 0 0 0 1) gives false
+    ∷ need 15 lowest gives false
+    ∷ [])
+unfolding above atOrAbove find meets
+met = refl
+
+-- 10 and 20 at 1.0.4.0, with needs
+abbrev pair : List Need → List Need → Table
+pair needsOf10 needsOf20 = cluster 10 (version 1 0 4 0) needsOf10 ∷ cluster 20 (version 1 0 4 0) needsOf20 ∷ []
+
+-- a need that 1.0.4.0 meets, and one that it just does not
+abbrev low : ℕ → Need
+low part = need part (version 1 0 4 0)
+
+abbrev high : ℕ → Need
+high part = need part (version 1 0 4 1)
+
+-- all needs of all clusters are met in the whole table; "a cluster may need itself"
+pub allMet : Hold needsMet (
+    [] gives true
+    ∷ pair [] [] gives true
+    ∷ pair (low 20 ∷ []) (low 10 ∷ []) gives true
+    ∷ pair (high 20 ∷ []) (low 10 ∷ []) gives false
+    ∷ pair (low 20 ∷ []) (high 10 ∷ []) gives false
+    ∷ pair (low 10 ∷ low 20 ∷ []) [] gives true
+    ∷ pair (high 10 ∷ low 20 ∷ []) [] gives false
+    ∷ pair (low 10 ∷ high 20 ∷ []) [] gives false
+    ∷ pair [] (low 20 ∷ low 30 ∷ []) gives false
+    ∷ [])
+unfolding above atOrAbove find meets meetsAll needsMetOf needsMet
+allMet = refl

@@ -4,14 +4,12 @@ use Prim.Native.Nat.{ℕ, _≤_}
 use mathlib.Core.Path.{_≡_, sym, ap, ap₂, _∙_}
 use mathlib.Core.Bool.{Bool, true, false, _&&_, and-comm, false≢true}
 use mathlib.Core.List.{List, [], _∷_, _++_, map}
-use mathlib.Core.Option.{Option, none, some}
 use lib.Dec.{eqb}
 use lib.ListN.{take}
 use borrow.Author.Tests.{eqb-true}
 use Rattle.base.proofs.Counted.{counted-few}
 use Rattle.base.proofs.Ladder.{and-stop, and-on}
 use Rattle.base.proofs.Tests.{and-left, and-right, bool-cases}
-use Rattle.checksum.specs.Sum.{sumsWithin}
 use Rattle.clusters.specs.declared.cluster.Cluster.{Cluster}
 use Rattle.clusters.specs.declared.table.Table.{Table}
 use Rattle.clusters.specs.Cluster.{partWithin, clusterWithin}
@@ -32,7 +30,7 @@ use Rattle.model.specs.Sound.{sessionSound, workSound, keptSound}
 use Rattle.state.specs.declared.session.Entry.{Entry}
 use Rattle.state.specs.declared.work.Work.{Work}
 use Rattle.state.specs.View.{entriesMost, viewEntry, clearedEntry, isInstall, isClearedWork, keptWork, viewWork}
-use Rattle.listed_actions.specs.Listed.{entryAction, listedActions}
+use Rattle.listed_actions.specs.Listed.{listedActions}
 use Rattle.soundness.specs.Parts.{countedEntries, countedSession, workNumbersSound}
 use Rattle.soundness.proofs.Order.{kept-action-last}
 

@@ -6,7 +6,7 @@ use mathlib.Core.List.{List, [], _∷_}
 use native.Mathlib.Omega.{arith}
 use lib.Dec.{leb, ltb}
 use borrow.Author.Tests.{leb-true, leb-false, le-leb, lt-leb, not-true, not-false}
-use Rattle.base.proofs.Tests.{and-left, and-right, bool-cases}
+use Rattle.base.proofs.Tests.{and-right, bool-cases}
 use Rattle.model.specs.State.{Package}
 use Rattle.model.specs.Areas.{declared}
 use Rattle.model.specs.Sound.{packageSound, packagesRise}

@@ -7,7 +7,7 @@ use mathlib.Core.List.{List, _∷_, map}
 use Prim.Native.Nat.{_+_, _-_, _≤_}
 use lib.ListN.{length, take, drop, getD}
 use Rattle.base.proofs.Counted.{unmapped}
-use Rattle.model.specs.State.{Package, Entry}
+use Rattle.model.specs.State.{Entry}
 use Rattle.model.specs.Sound.{processedAsListed}
 use Rattle.state.specs.View.{clearedPackage, viewPackage, viewPackages}
 use Rattle.soundness.specs.Parts.{plainId}

@@ -5,12 +5,11 @@ use borrow.Author.Needs.{needs}
 use native.Mathlib.Omega.{arith}
 use mathlib.Core.Path.{_≡_, sym, ap, _∙_}
 use mathlib.Core.Bool.{_&&_}
-use mathlib.Core.List.{List, _∷_}
+use mathlib.Core.List.{_∷_}
 use Prim.Native.Nat.{_+_, _-_, _≤_}
 use lib.Dec.{leb}
 use lib.ListN.{length, drop, getD}
 use Rattle.base.proofs.Counted.{unmapped}
-use Rattle.model.specs.State.{Package}
 use Rattle.model.specs.Areas.{declared}
 use Rattle.model.specs.Sound.{packagesRise}
 use Rattle.state.specs.View.{clearedPackage, viewPackage, viewPackages}

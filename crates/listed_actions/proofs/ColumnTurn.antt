@@ -20,7 +20,7 @@ use Rattle.clusters.specs.declared.columns.Columns.{Columns}
 use Rattle.clusters.specs.Version.{above}
 use Rattle.clusters.specs.Cluster.{Cluster}
 use Rattle.clusters.specs.Table.{Table, find, clustersMost}
-use Rattle.clusters.specs.View.{viewCluster}
+use Rattle.clusters.specs.View.{noCluster, viewCluster}
 use Rattle.clusters.specs.Place.{placeAmong}
 use Rattle.clusters.specs.Columns.{ColumnsOf}
 use Rattle.clusters.proofs.Finding.{present-none, present-some}
@@ -34,6 +34,10 @@ use Rattle.actions.proofs.Arrays.{map-take}
 use Rattle.state.specs.declared.session.Entry.{Entry}
 use Rattle.listed_actions.specs.Listed.{isAmong, entryAction, listedActions, entryPart}
 use Rattle.listed_actions.specs.InTurn.{fullWith, passesUntouched, stagedAfter, passInTurnOn, placeOrFirst, passesAbsent, passesPresent, passesAt}
+
+-- what the logic reads past the end of an array of entries
+abbrev pub noEntry : Entry
+noEntry = record { id = 0; action = record { change = Install; cluster = noCluster } }
 
 -- ---- the place of an old version is in the array
 

@@ -38,12 +38,16 @@ unfolding countIn
 both-few [] = omega arith
 both-few (p ∷ ps) = let ih = both-few ps in let one = in-two-states (p .state) in omega arith
 
+-- the room of the list has a place for each package
+a-place-for-each : packagesMost ≤ entriesMost
+a-place-for-each = omega arith
+
 -- the entries of the Processed packages, and of the one that is Processing, have room
 pub room-for-all : (t : Transfers) → t .count ≤ packagesMost
     → countIn isProcessed (viewPackages t) + countIn isBeingProcessed (viewPackages t) ≤ entriesMost
 room-for-all t few =
     let fits = leb-true (length (viewPackages t)) packagesMost (packages-fit t ∙ le-leb (t .count) packagesMost few) in
-    omega (arith, both-few (viewPackages t))
+    omega (arith, a-place-for-each, both-few (viewPackages t))
 
 -- ---- the list
 

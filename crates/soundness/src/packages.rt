@@ -13,6 +13,7 @@ ghost use Rattle.model.specs.Areas.{declared};
 ghost use Rattle.model.specs.Sound.{storeMost, packagesMost, storeSound, receivedSound, packageSound, packagesRise, transfersSound};
 ghost use Rattle.state.specs.View.{viewPackage, viewPackages, viewTransfers};
 
+// Received is at most the size, and equal to it past Transferring.
 fn received_sound(p: Package) -> bool
     ensures { λ r. ⌜ r ≡ receivedSound (viewPackage p) ⌝ }
 {
@@ -23,6 +24,7 @@ fn received_sound(p: Package) -> bool
     p.received == p.size
 }
 
+// A package by itself.
 fn package_sound(p: Package) -> bool
     ensures { λ r. ⌜ r ≡ packageSound (viewPackage p) ⌝ }
 {

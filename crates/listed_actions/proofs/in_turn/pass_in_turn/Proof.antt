@@ -11,17 +11,15 @@ use lib.ListN.{length, take, drop, getD}
 use Rattle.base.proofs.Counted.{unmapped, from-end}
 use Rattle.base.proofs.Ladder.{told-no, told-yes}
 use Rattle.clusters.specs.Table.{Table, tableWithin, clustersMost}
-use Rattle.clusters.specs.View.{noVersion, noCluster, viewCluster}
+use Rattle.clusters.specs.View.{noVersion, viewCluster}
 use Rattle.clusters.specs.Columns.{ColumnsOf}
-use Rattle.actions.specs.declared.action.Change.the-variants.{Install}
 use Rattle.actions.specs.Action.{Action, actionsWithin}
 use Rattle.actions.specs.Refusals.{passInTurn}
-use Rattle.state.specs.declared.session.Entry.{Entry}
 use Rattle.state.specs.View.{entriesMost}
 use Rattle.listed_actions.specs.Listed.{entryAction, listedActions}
 use Rattle.listed_actions.specs.InTurn.{passesUntouched, stagedAfter, passInTurnOn, passesAt}
 use Rattle.listed_actions.proofs.Untouched.{pass-in-turn-is}
-use Rattle.listed_actions.proofs.ColumnTurn.{place-or-first-below, passes-at, at-most-one-more, stops-touched, stops-refused, goes-on}
+use Rattle.listed_actions.proofs.ColumnTurn.{noEntry, place-or-first-below, passes-at, at-most-one-more, stops-touched, stops-refused, goes-on}
 use Rattle.listed_actions.proofs.in_turn.pass_in_turn.Statement.{statement}
 use Rattle.listed_actions.proofs.in_turn.pass_in_turn.Tie as tie
 
@@ -82,10 +80,6 @@ element-copy-out-old c = below c
 
 passes-at-requires : tie.Need-passes-at-requires Inv-loop μ-loop
 passes-at-requires c κs = search needs
-
--- what the logic reads past the end of the array
-abbrev noEntry : Entry
-noEntry = record { id = 0; action = record { change = Install; cluster = noCluster } }
 
 -- ---- the places on the way to the answer on 12 to 15
 

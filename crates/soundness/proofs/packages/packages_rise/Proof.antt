@@ -11,7 +11,7 @@ use lib.Dec.{leb}
 use lib.ListN.{length, drop, getD}
 use Rattle.base.proofs.Counted.{unmapped}
 use Rattle.model.specs.Areas.{declared}
-use Rattle.model.specs.Sound.{packagesRise}
+use Rattle.model.specs.Sound.{packagesMost, packagesRise}
 use Rattle.state.specs.View.{clearedPackage, viewPackage, viewPackages}
 use Rattle.soundness.proofs.Along.{packages-step, packages-end}
 use Rattle.soundness.proofs.OnePackage.{riseAndFit, all-packages, no-package, stops, goes-on, ends-within}
@@ -27,7 +27,7 @@ Inv-loop length t count next room start₀ last₀ i₀ start last i =
 abbrev μ-loop : tie.MeasureT-loop
 μ-loop length t count next room start₀ last₀ i₀ start last i = count - i
 
-long : (c : tie.Start Inv-loop μ-loop) → length (c .args .t1 .packages) ≡ 16
+long : (c : tie.Start Inv-loop μ-loop) → length (c .args .t1 .packages) ≡ packagesMost
 long c = search (needs, unmapped)
 
 step : (c : tie.In-loop Inv-loop μ-loop) → (let a = c .before .before .args in let t = a .t1 in let l = c .before .loop in

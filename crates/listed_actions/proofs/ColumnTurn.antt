@@ -6,7 +6,7 @@ use mathlib.Core.List.{List, [], _∷_, _++_, map}
 use mathlib.Core.Option.{none, some}
 use native.Mathlib.Omega.{arith}
 use native.Mathlib.Numerals.{add-one}
-use lib.Dec.{eqb, ltb}
+use lib.Dec.{ltb}
 use lib.ListN.{length, take, drop, getD, length-map, length-take, List·getD-map}
 use lib.Seq.{getD-take, take-suc, take-take}
 use borrow.Author.Tests.{ltb-true, ltb-false, le-leb, lt-leb}
@@ -19,36 +19,31 @@ use Rattle.clusters.specs.declared.table.Found.the-variants.{At, Nothing}
 use Rattle.clusters.specs.declared.columns.Columns.{Columns}
 use Rattle.clusters.specs.Version.{above}
 use Rattle.clusters.specs.Cluster.{Cluster}
-use Rattle.clusters.specs.Table.{Table, find, present, clustersMost}
-use Rattle.clusters.specs.View.{viewCluster}
+use Rattle.clusters.specs.Table.{Table, find, clustersMost}
+use Rattle.clusters.specs.View.{noCluster, viewCluster}
 use Rattle.clusters.specs.Place.{placeAmong}
 use Rattle.clusters.specs.Columns.{ColumnsOf}
 use Rattle.clusters.proofs.Finding.{present-none, present-some}
-use Rattle.clusters.proofs.ColumnLaws.{none-among, found-among}
+use Rattle.clusters.proofs.ColumnLaws.{place-below, none-among, found-among}
 use Rattle.actions.specs.declared.action.Change.{Change}
 use Rattle.actions.specs.declared.action.Change.the-variants.{Install, Update, Remove}
-use Rattle.actions.specs.Action.{Action, update, actionPart}
+use Rattle.actions.specs.Action.{Action, install, update, remove, actionPart}
 use Rattle.actions.specs.Refusals.{touched, clusterPresent, clusterAbsent, oldVersion}
 use Rattle.actions.specs.View.{actionOf}
 use Rattle.actions.proofs.Arrays.{map-take}
 use Rattle.state.specs.declared.session.Entry.{Entry}
 use Rattle.listed_actions.specs.Listed.{isAmong, entryAction, listedActions, entryPart}
-use Rattle.listed_actions.specs.InTurn.{fullWith, passesUntouched, stagedAfter, passInTurnOn, placeOrFirst, passesAbsent, passesPresent, passesAt, stagedAfterChange}
+use Rattle.listed_actions.specs.InTurn.{fullWith, passesUntouched, stagedAfter, passInTurnOn, placeOrFirst, passesAbsent, passesPresent, passesAt}
+
+-- what the logic reads past the end of an array of entries
+abbrev pub noEntry : Entry
+noEntry = record { id = 0; action = record { change = Install; cluster = noCluster } }
 
 -- ---- the place of an old version is in the array
 
-place-below : (base part : ℕ) (l : List ℕ) (i : ℕ) → placeAmong base part l ≡ At i → i < base + length l
-unfolding placeAmong
-place-below base part [] i e = let z : _≡_ {A = ℕ} 0 1 = cc in absurd (omega arith)
-place-below base part (p ∷ l) i e =
-    let ih : placeAmong (base + 1) part l ≡ At i → i < base + 1 + length l = place-below (base + 1) part l i in
-    bool-cases (eqb part p)
-    (λ z. let same : At base ≡ At i = rw z at e in let s : base ≡ i = cc in omega arith)
-    λ z. omega (arith, ih (rw z at e))
-
 pub place-or-first-below : (part n most : ℕ) (l : List ℕ) (place : Found) → n ≤ most → 1 ≤ most → place ≡ placeAmong 0 part (take n l) → placeOrFirst place < most
 place-or-first-below part n most l Nothing few room e = omega arith
-place-or-first-below part n most l (At i) few room e = omega (arith, place-below 0 part (take n l) i (sym e), length-take n l)
+place-or-first-below part n most l (At i) few room e = omega (arith, place-below part n l i (sym e))
 
 -- ---- 12 to 15 by what is found in the columns
 
@@ -91,17 +86,11 @@ part-of Install c = refl
 part-of Update c = refl
 part-of Remove c = refl
 
-same-staged : (change : Change) (c : Cluster) (n : ℕ) → stagedAfterChange change n ≡ stagedAfter (actionOf change c) n
-unfolding stagedAfter stagedAfterChange
-same-staged Install c n = refl
-same-staged Update c n = refl
-same-staged Remove c n = refl
-
-pub at-most-one-more : (change : Change) (n : ℕ) → stagedAfterChange change n ≤ n + 1
-unfolding stagedAfterChange
-at-most-one-more Install n = omega arith
-at-most-one-more Update n = omega arith
-at-most-one-more Remove n = omega arith
+pub at-most-one-more : (a : Action) (n : ℕ) → stagedAfter a n ≤ n + 1
+unfolding stagedAfter
+at-most-one-more (install c) n = omega arith
+at-most-one-more (update c) n = omega arith
+at-most-one-more (remove part) n = omega arith
 
 entry-part : (e : Entry) → actionPart (entryAction e) ≡ entryPart e
 entry-part e = part-of (e .action .change) (viewCluster (e .action .cluster))
@@ -162,9 +151,7 @@ module _ (b : Table) (entries : List Entry) (count i n : ℕ) (parts : List ℕ)
   stops-refused u p = sym (here ∙ turn-refused b n _ _ _ (sym touched-here ∙ u) p)
 
   pub goes-on : isAmong (entryPart (getD entries i d)) (take i parts) ≡ false → passesUntouched b n (entryAction (getD entries i d)) ≡ true
-      → whole ≡ passInTurnOn b (stagedAfterChange (getD entries i d .action .change) n) (take (i + 1) (listedActions entries count)) (drop (i + 1) (listedActions entries count))
+      → whole ≡ passInTurnOn b (stagedAfter (entryAction (getD entries i d)) n) (take (i + 1) (listedActions entries count)) (drop (i + 1) (listedActions entries count))
   goes-on u p =
-      let a = getD entries i d .action in
       here ∙ turn-passed b n _ _ _ (sym touched-here ∙ u) p
       ∙ ap (λ (l : List Action). passInTurnOn b (stagedAfter (entryAction (getD entries i d)) n) l (drop (i + 1) (listedActions entries count))) (sym (one-more-listed entries count i d le h))
-      ∙ ap (λ (k : ℕ). passInTurnOn b k (take (i + 1) (listedActions entries count)) (drop (i + 1) (listedActions entries count))) (sym (same-staged (a .change) (viewCluster (a .cluster)) n))

@@ -33,13 +33,14 @@ passesUntouched beginning staged a =
     ∷ (refuse 15 when fullWith staged a)
     ∷ [])
 
--- how many clusters are staged after an action
+-- how many clusters are staged after an action that passes: "install adds the cluster .., update replaces both, remove takes the
+-- cluster out"
 unfoldable pub stagedAfter : Action → ℕ → ℕ
 stagedAfter (install c) staged = staged + 1
 stagedAfter (update c) staged = staged
 stagedAfter (remove part) staged = staged - 1
 
--- each action after those listed before it
+-- "pass 11 to 15 in turn": each action after those listed before it, 11 by the list and 12 to 15 as above
 unfoldable pub passInTurnOn : Table → ℕ → List Action → List Action → Bool
 passInTurnOn beginning staged listed [] = true
 passInTurnOn beginning staged listed (a ∷ rest) =
@@ -48,25 +49,24 @@ passInTurnOn beginning staged listed (a ∷ rest) =
 
 -- ---- the same by what the columns of the table have
 
+-- the place of a cluster in the columns, and the first where it is not there: a place to read a version at in either case
 abbrev pub placeOrFirst : Found → ℕ
 placeOrFirst (At i) = i
 placeOrFirst Nothing = 0
 
+-- 12 to 15 of a change to a cluster that is not there: only an install passes, where there is room for it
 abbrev pub passesAbsent : Change → ℕ → Bool
 passesAbsent Install staged = ltb staged clustersMost
 passesAbsent Update staged = false
 passesAbsent Remove staged = false
 
+-- 12 to 15 of a change to a cluster that is there: a remove passes, and an update to a version above the old one
 abbrev pub passesPresent : Change → Version → Version → Bool
 passesPresent Install version old = false
 passesPresent Update version old = above version old
 passesPresent Remove version old = true
 
+-- 12 to 15 of a change to the cluster with that place
 abbrev pub passesAt : Found → Version → ℕ → Change → Version → Bool
 passesAt (At i) old staged change version = passesPresent change version old
 passesAt Nothing old staged change version = passesAbsent change staged
-
-unfoldable pub stagedAfterChange : Change → ℕ → ℕ
-stagedAfterChange Install staged = staged + 1
-stagedAfterChange Update staged = staged
-stagedAfterChange Remove staged = staged - 1

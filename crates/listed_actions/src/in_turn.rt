@@ -14,13 +14,15 @@ ghost use mathlib.Core.Path.{_≡_};
 ghost use mathlib.Core.Bool.{true};
 ghost use mathlib.Core.List.{[]};
 ghost use Prim.Native.Nat.{_+_, _≤_, _<_};
+ghost use Rattle.clusters.specs.Cluster.{Cluster as PlainCluster};
 ghost use Rattle.clusters.specs.Table.{Table as PlainTable, tableWithin, clustersMost};
 ghost use Rattle.clusters.specs.Columns.{ColumnsOf};
 ghost use Rattle.actions.specs.Action.{actionsWithin};
 ghost use Rattle.actions.specs.Refusals.{passInTurn};
+ghost use Rattle.actions.specs.View.{actionOf};
 ghost use Rattle.state.specs.View.{entriesMost};
 ghost use Rattle.listed_actions.specs.Listed.{listedActions};
-ghost use Rattle.listed_actions.specs.InTurn.{placeOrFirst, passesAbsent, passesPresent, passesAt, stagedAfterChange};
+ghost use Rattle.listed_actions.specs.InTurn.{placeOrFirst, passesAbsent, passesPresent, passesAt, stagedAfter};
 
 // A place to read a version from, where the cluster is there or not.
 fn place_or_first(place: Found) -> usize
@@ -68,7 +70,7 @@ fn passes_at(place: Found, old: Version, staged: usize, change: Change, version:
 // each entry.
 fn staged_after(change: Change, staged: usize) -> usize
     requires { ⌜ staged < clustersMost + entriesMost ⌝ }
-    ensures { λ r. ⌜ r ≡ stagedAfterChange change staged ⌝ }
+    ensures { λ r. ⌜ ((c : PlainCluster) → r ≡ stagedAfter (actionOf change c) staged) ⌝ }
 {
     match change {
         Change::Install => staged + 1,

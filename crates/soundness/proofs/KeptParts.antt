@@ -4,14 +4,12 @@ use Prim.Native.Nat.{ℕ, _≤_}
 use mathlib.Core.Path.{_≡_, sym, ap, ap₂, _∙_}
 use mathlib.Core.Bool.{Bool, true, false, _&&_, and-comm, false≢true}
 use mathlib.Core.List.{List, [], _∷_, _++_, map}
-use mathlib.Core.Option.{Option, none, some}
 use lib.Dec.{eqb}
 use lib.ListN.{take}
 use borrow.Author.Tests.{eqb-true}
 use Rattle.base.proofs.Counted.{counted-few}
 use Rattle.base.proofs.Ladder.{and-stop, and-on}
 use Rattle.base.proofs.Tests.{and-left, and-right, bool-cases}
-use Rattle.checksum.specs.Sum.{sumsWithin}
 use Rattle.clusters.specs.declared.cluster.Cluster.{Cluster}
 use Rattle.clusters.specs.declared.table.Table.{Table}
 use Rattle.clusters.specs.Cluster.{partWithin, clusterWithin}
@@ -32,9 +30,9 @@ use Rattle.model.specs.Sound.{sessionSound, workSound, keptSound}
 use Rattle.state.specs.declared.session.Entry.{Entry}
 use Rattle.state.specs.declared.work.Work.{Work}
 use Rattle.state.specs.View.{entriesMost, viewEntry, clearedEntry, isInstall, isClearedWork, keptWork, viewWork}
-use Rattle.listed_actions.specs.Listed.{entryAction, listedActions}
+use Rattle.listed_actions.specs.Listed.{listedActions}
 use Rattle.soundness.specs.Parts.{countedEntries, countedSession, workNumbersSound}
-use Rattle.soundness.proofs.Order.{reordered}
+use Rattle.soundness.proofs.Order.{kept-action-last}
 
 -- ---- cleared values have no action within the limits
 
@@ -115,15 +113,11 @@ module _ (beginning : Table) (entries : List Entry) (count : ℕ) (few : count �
     unfolding keptSound
     kept-in in-it = bool-cases (isClearedWork w) (λ e. rw (e, in-it, cleared-work e)) λ e. rw (e, in-it)
 
-    one-more : (t listed turn own pass numbers : Bool)
-        → (t && (listed && turn)) && (own && (pass && numbers)) ≡ numbers && (t && ((listed && own) && (turn && pass)))
-    one-more t listed turn own pass numbers = simp reordered
-
     inside : isProcessing phase ≡ true → whole ≡ workNumbersSound w size && actionsSound (listedActions entries count ++ kept ∷ [])
     inside in-it =
         let acts = listedActions entries count in
         ap₂ _&&_ session-is (kept-in in-it ∙ work-is)
-        ∙ one-more (tableWithin table) (actionsWithin acts) (passInTurn table [] acts) (actionWithin kept) (passes (applyAll table acts) acts kept) (workNumbersSound w size)
+        ∙ kept-action-last (tableWithin table) (actionsWithin acts) (passInTurn table [] acts) (actionWithin kept) (passes (applyAll table acts) acts kept) (workNumbersSound w size)
         ∙ ap₂ (λ (a b : Bool). workNumbersSound w size && (tableWithin table && (a && b))) (sym (actions-within-last acts kept)) (sym (pass-in-turn-last table [] acts kept))
 
     pub numbers-off : isProcessing phase ≡ true → workNumbersSound w size ≡ false → false ≡ whole

@@ -1,6 +1,7 @@
 pub mod Along
-pub mod OnePackage
 pub mod Order
+pub mod OnePackage
+pub mod TransferLimits
 pub mod Counting
 pub mod PhaseNumbers
 pub mod Listing

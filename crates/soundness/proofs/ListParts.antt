@@ -22,7 +22,7 @@ use Rattle.state.specs.View.{viewPackages, entriesMost, viewEntry, clearedEntry
 use Rattle.state.proofs.Views.{packages-fit}
 use Rattle.listed_actions.specs.Listed.{entryId}
 use Rattle.soundness.specs.Parts.{countedEntries, plainId}
-use Rattle.soundness.proofs.Order.{reordered}
+use Rattle.soundness.proofs.Order.{numbers-first}
 
 -- ---- how many
 
@@ -38,12 +38,16 @@ unfolding countIn
 both-few [] = omega arith
 both-few (p ∷ ps) = let ih = both-few ps in let one = in-two-states (p .state) in omega arith
 
+-- the room of the list has a place for each package
+a-place-for-each : packagesMost ≤ entriesMost
+a-place-for-each = omega arith
+
 -- the entries of the Processed packages, and of the one that is Processing, have room
 pub room-for-all : (t : Transfers) → t .count ≤ packagesMost
     → countIn isProcessed (viewPackages t) + countIn isBeingProcessed (viewPackages t) ≤ entriesMost
 room-for-all t few =
     let fits = leb-true (length (viewPackages t)) packagesMost (packages-fit t ∙ le-leb (t .count) packagesMost few) in
-    omega (arith, both-few (viewPackages t))
+    omega (arith, a-place-for-each, both-few (viewPackages t))
 
 -- ---- the list
 
@@ -70,13 +74,10 @@ module _ (entries : List EntryStruct) (count : ℕ) (long : length entries ≡ e
     abbrev phasePart : Bool
     phasePart = eqb (countIn isBeingProcessed ps) (cond (isProcessing phase) 1 0) && listFits phase listed
 
-    in-order : (many as-listed phase-fits : Bool) → (many && as-listed) && phase-fits ≡ many && (phase-fits && as-listed)
-    in-order many as-listed phase-fits = simp reordered
-
     parts : whole ≡ eqb count (countIn isProcessed ps) && (phasePart && processedAsListed listed ps)
     unfolding listSound processingSound
     parts =
-        in-order (eqb (length listed) (countIn isProcessed ps)) (processedAsListed listed ps) phasePart
+        numbers-first (eqb (length listed) (countIn isProcessed ps)) (processedAsListed listed ps) phasePart
         ∙ ap (λ (n : ℕ). eqb n (countIn isProcessed ps) && (phasePart && processedAsListed listed ps)) counted-length
 
     pub other-count : (count ≡ countIn isProcessed ps → ⊥) → false ≡ whole

@@ -1,44 +1,36 @@
--- The parts of soundness in the order in which the code decides them: counts and limits before what is looked through. Assumes nothing.
-use Prim.Native.Nat.{ℕ, _+_, _≤_}
-use mathlib.Core.Path.{_≡_, refl, sym, ap, _∙_}
+-- The parts of soundness reordered: the definitions join them in document 01's order, the code decides counts and limits before what is
+-- looked through. Assumes nothing.
+use mathlib.Core.Path.{_≡_, refl}
 use mathlib.Core.Bool.{Bool, true, false, _&&_, and-assoc, and-comm}
-use lib.Dec.{leb}
-use lib.ListN.{length as listLength}
-use borrow.Author.Tests.{leb-true}
-use Rattle.base.proofs.Tests.{and-left, and-right}
-use Rattle.model.specs.Areas.{declared}
-use Rattle.model.specs.Sound.{storeMost, packagesMost, idMost, storeSound, packagesRise, transfersSound}
-use Rattle.state.specs.declared.transfers.Transfers.{Transfers}
-use Rattle.state.specs.View.{viewPackages, viewTransfers}
-use Rattle.state.proofs.Views.{packages-fit}
 
-pub and-left-comm : (a b c : Bool) → a && (b && c) ≡ b && (a && c)
+and-left-comm : (a b c : Bool) → a && (b && c) ≡ b && (a && c)
 and-left-comm true b c = refl
 and-left-comm false true c = refl
 and-left-comm false false c = refl
 
-pub ruleset reordered = (and-assoc, and-comm, and-left-comm)
+ruleset reordered = (and-assoc, and-comm, and-left-comm)
 
-limits-first : (room fits few begun ids rise : Bool)
+-- the limits of the transfers before each package and its area
+pub limits-first : (room fits few begun ids rise : Bool)
     → (room && fits) && (few && (begun && (ids && rise))) ≡ (few && (room && (begun && ids))) && (rise && fits)
 limits-first room fits few begun ids rise = simp reordered
 
-abbrev pub withinLimits : Transfers → ℕ → Bool
-withinLimits t length = leb (t .count) packagesMost && (leb length storeMost && (leb 1 (t .next) && leb (t .next) (idMost + 1)))
+-- a package and the end of its area before those behind it
+pub area-first : (over below own rest ends fits : Bool)
+    → (over && (below && (own && rest))) && (ends && fits) ≡ (over && (below && (own && ends))) && (rest && fits)
+area-first over below own rest ends fits = simp reordered
 
-pub transfers-limits : (t : Transfers) (length : ℕ) → storeSound (viewPackages t) length && transfersSound (viewTransfers t)
-    ≡ withinLimits t length && (packagesRise 0 (t .next) (viewPackages t) && leb (declared (viewPackages t)) length)
-unfolding storeSound transfersSound
-transfers-limits t length =
-    limits-first (leb length storeMost) (leb (declared (viewPackages t)) length) (leb (listLength (viewPackages t)) packagesMost) (leb 1 (t .next))
-    (leb (t .next) (idMost + 1)) (packagesRise 0 (t .next) (viewPackages t))
-    ∙ ap (λ (few : Bool). (few && (leb length storeMost && (leb 1 (t .next) && leb (t .next) (idMost + 1)))) && (packagesRise 0 (t .next) (viewPackages t) && leb (declared (viewPackages t)) length)) (packages-fit t)
+-- the number of listed entries, then the manager's state, then each package
+pub numbers-first : (many as-listed phase : Bool) → (many && as-listed) && phase ≡ many && (phase && as-listed)
+numbers-first many as-listed phase = simp reordered
 
-pub limits-told : (t : Transfers) (length : ℕ) → storeSound (viewPackages t) length && transfersSound (viewTransfers t) ≡ true
-    → (t .count ≤ packagesMost) × (packagesRise 0 (t .next) (viewPackages t) ≡ true)
-limits-told t length h =
-    let e = sym (transfers-limits t length) ∙ h in
-    let limits = withinLimits t length in (
-      leb-true _ _ (and-left _ _ (and-left limits _ e)),
-      and-left (packagesRise 0 (t .next) (viewPackages t)) _ (and-right limits _ e),
-    )
+-- the kept numbers, then the table, then the kept action behind the listed ones
+pub kept-action-last : (table within turn own passes numbers : Bool)
+    → (table && (within && turn)) && (own && (passes && numbers)) ≡ numbers && (table && ((within && own) && (turn && passes)))
+kept-action-last table within turn own passes numbers = simp reordered
+
+-- the transfers, then the list with the manager's state, then the session with the kept values
+pub session-last : (store transfers session list kept processing fits : Bool)
+    → store && (transfers && (session && (list && (kept && (processing && fits)))))
+    ≡ (store && transfers) && ((list && (processing && fits)) && (session && kept))
+session-last store transfers session list kept processing fits = simp reordered

@@ -10,7 +10,8 @@ use Rattle.model.specs.State.{isProcessing}
 use Rattle.model.specs.Sound.{packagesMost, packagesRise, storeSound, transfersSound, sessionSound, listSound, keptSound, processingSound, listFits, soundFor}
 use Rattle.state.specs.declared.state.State.{State}
 use Rattle.state.specs.View.{viewPackages, viewTransfers, viewPhase, entriesMost, viewEntries, viewSession, viewWork, viewState}
-use Rattle.soundness.proofs.Order.{reordered, limits-told}
+use Rattle.soundness.proofs.Order.{session-last}
+use Rattle.soundness.proofs.TransferLimits.{limits-told}
 use Rattle.soundness.proofs.ListParts.{room-for-all, numbers-told}
 
 module _ (s : State) (room : ℕ) where
@@ -27,15 +28,10 @@ module _ (s : State) (room : ℕ) where
       sessionSound (viewSession (s .session))
       && keptSound (viewPhase (s .phase)) (viewSession (s .session)) (viewPackages (s .transfers)) (viewWork (s .work))
 
-  in-order : (store transfers session list kept processing fits : Bool)
-      → store && (transfers && (session && (list && (kept && (processing && fits)))))
-      ≡ (store && transfers) && ((list && (processing && fits)) && (session && kept))
-  in-order store transfers session list kept processing fits = simp reordered
-
   parts : soundFor (viewState s) room ≡ transfersPart && (listPart && sessionPart)
   unfolding soundFor
   parts =
-      in-order (storeSound (viewPackages (s .transfers)) room) (transfersSound (viewTransfers (s .transfers))) (sessionSound (viewSession (s .session)))
+      session-last (storeSound (viewPackages (s .transfers)) room) (transfersSound (viewTransfers (s .transfers))) (sessionSound (viewSession (s .session)))
       (listSound (viewEntries (s .session)) (viewPackages (s .transfers)))
       (keptSound (viewPhase (s .phase)) (viewSession (s .session)) (viewPackages (s .transfers)) (viewWork (s .work)))
       (processingSound (viewPhase (s .phase)) (viewPackages (s .transfers))) (listFits (viewPhase (s .phase)) (viewEntries (s .session)))

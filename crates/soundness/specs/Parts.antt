@@ -22,9 +22,11 @@ countsOf ps = record { processed = countIn isProcessed ps; processing = countIn 
 abbrev pub countedEntries : List Entry → ℕ → List model.Entry
 countedEntries entries count = map viewEntry (counted entriesMost clearedEntry count entries)
 
+-- the transfer id of the package that an entry is of
 abbrev pub plainId : model.Entry → ℕ
 plainId e = e .id
 
+-- the session of a table and those entries; `viewSession` is this of its parts
 abbrev pub countedSession : Table → List Entry → ℕ → model.Session
 countedSession beginning entries count = record { beginning = viewTable beginning; listed = countedEntries entries count }
 

@@ -15,13 +15,14 @@ pub struct Counts {
     pub processing: usize,
 }
 
+// What a package adds to a count.
 fn one_if(holds: bool) -> usize
     ensures { λ r. ⌜ r ≡ cond holds 1 0 ⌝ }
 {
     if holds { 1 } else { 0 }
 }
 
-// transfers_sound checks the number of packages before.
+// The counts of the packages. transfers_sound checks their number before.
 pub fn count_states(t: Transfers) -> Counts
     requires { ⌜ t .count ≤ packagesMost ⌝ }
     ensures { λ r. ⌜ r ≡ countsOf (viewPackages t) ⌝ }

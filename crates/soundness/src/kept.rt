@@ -23,6 +23,9 @@ ghost use Rattle.state.specs.View.{viewPackages, viewPhase, viewWork, entriesMo
 ghost use Rattle.listed_actions.specs.Listed.{listedActions};
 ghost use Rattle.soundness.specs.Parts.{countedSession, workNumbersSound};
 
+// The largest running sum: each is a remainder by 255.
+const RUNNING_SUM_MOST: u32 = 254;
+
 // The size of the package that is processing, and 0 where none is. transfers_sound checks before what is required.
 fn processing_size(t: Transfers) -> u32
     requires { ⌜ (t .count ≤ packagesMost) × (packagesRise 0 (t .next) (viewPackages t) ≡ true) ⌝ }
@@ -47,7 +50,9 @@ fn numbers_sound(w: Work, size: u32) -> bool
 {
     let sums = w.running_sums;
     (w.start as u64 + w.count as u64 == size as u64)
-        & ((w.done <= w.count) & ((w.sum <= SUM_MOST) & ((sums.c0 <= 254) & (sums.c1 <= 254))))
+        & ((w.done <= w.count)
+            & ((w.sum <= SUM_MOST)
+                & ((sums.c0 <= RUNNING_SUM_MOST) & (sums.c1 <= RUNNING_SUM_MOST))))
 }
 
 // The entries with an action behind the first count of them. Where a package is processing there is room for its action.

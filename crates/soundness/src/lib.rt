@@ -1,4 +1,4 @@
-// Whether a state is sound for a store of a length.
+// Whether a state is sound for a store of a length, decided part by part on any values of the fields.
 mod counts;
 mod kept;
 mod listed;

@@ -10,9 +10,10 @@ ghost use mathlib.Core.Bool.{_&&_};
 ghost use Prim.Native.Nat.{_≤_};
 ghost use lib.Dec.{leb};
 ghost use Rattle.model.specs.Areas.{declared};
-ghost use Rattle.model.specs.Sound.{packagesMost, storeSound, receivedSound, packageSound, packagesRise, transfersSound};
+ghost use Rattle.model.specs.Sound.{storeMost, packagesMost, storeSound, receivedSound, packageSound, packagesRise, transfersSound};
 ghost use Rattle.state.specs.View.{viewPackage, viewPackages, viewTransfers};
 
+// Received is at most the size, and equal to it past Transferring.
 fn received_sound(p: Package) -> bool
     ensures { λ r. ⌜ r ≡ receivedSound (viewPackage p) ⌝ }
 {
@@ -23,6 +24,7 @@ fn received_sound(p: Package) -> bool
     p.received == p.size
 }
 
+// A package by itself.
 fn package_sound(p: Package) -> bool
     ensures { λ r. ⌜ r ≡ packageSound (viewPackage p) ⌝ }
 {
@@ -30,29 +32,31 @@ fn package_sound(p: Package) -> bool
     (1 <= p.id) & ((1 <= p.size) & (received & (p.blocks <= p.received)))
 }
 
-// Whether the ids rise and are below the next one, each package is sound and the areas fit the store. The sum of sixteen sizes of 32
-// bits does not wrap in 64. transfers_sound checks their number before.
+// Whether the ids rise and are below the next one, each package is sound and its area ends within the store. An area starts within the
+// store, so its end does not wrap. transfers_sound checks before what is required.
 fn packages_rise(t: Transfers, length: usize) -> bool
-    requires { ⌜ t .count ≤ packagesMost ⌝ }
+    requires { ⌜ (t .count ≤ packagesMost) × (length ≤ storeMost) ⌝ }
     ensures { λ r. ⌜ r ≡ packagesRise 0 (t .next) (viewPackages t) && leb (declared (viewPackages t)) length ⌝ }
 {
     let count = t.count;
     let next = t.next;
-    let mut declared: u64 = 0;
+    let room = length as u64;
+    let mut start: u64 = 0;
     let mut last: u64 = 0;
     let mut i = 0;
     while i < count {
         let p = t.packages[i];
         let id = p.id as u64;
+        let end = start + p.size as u64;
         let own = package_sound(p);
-        if !((last < id) & ((id < next) & own)) {
+        if !((last < id) & ((id < next) & (own & (end <= room)))) {
             return false;
         }
-        declared += p.size as u64;
+        start = end;
         last = id;
         i += 1;
     }
-    declared <= length as u64
+    true
 }
 
 // Whether the packages, the next id and the store's length are within their limits, and the areas fit the store.

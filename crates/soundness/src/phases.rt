@@ -10,6 +10,7 @@ ghost use Rattle.model.specs.State.{Entry, isProcessing};
 ghost use Rattle.model.specs.Sound.{listFits};
 ghost use Rattle.state.specs.View.{viewPhase};
 
+// Document 01's numbers of two of the manager's states.
 const IDLE: usize = 0;
 
 const PROCESSING: usize = 2;

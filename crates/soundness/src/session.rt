@@ -21,6 +21,7 @@ ghost use Rattle.actions.specs.View.{viewAction};
 ghost use Rattle.state.specs.View.{entriesMost};
 ghost use Rattle.listed_actions.specs.Listed.{listedActions};
 
+// Of a remove only the part number counts.
 fn action_within(action: Action) -> bool
     ensures { λ r. ⌜ r ≡ actionWithin (viewAction action) ⌝ }
 {
@@ -33,7 +34,7 @@ fn action_within(action: Action) -> bool
     }
 }
 
-// session_sound passes on what it requires of their number.
+// Whether each listed action is within its limits. session_sound passes on what it requires of their number.
 fn actions_within(entries: [Entry; ENTRIES_MOST], count: usize) -> bool
     requires { ⌜ count ≤ entriesMost ⌝ }
     ensures { λ r. ⌜ r ≡ actionsWithin (listedActions entries count) ⌝ }

@@ -11,17 +11,15 @@ use lib.ListN.{length, take, drop, getD}
 use Rattle.base.proofs.Counted.{unmapped, from-end}
 use Rattle.base.proofs.Ladder.{told-no, told-yes}
 use Rattle.clusters.specs.Table.{Table, tableWithin, clustersMost}
-use Rattle.clusters.specs.View.{noVersion, noCluster, viewCluster}
+use Rattle.clusters.specs.View.{noVersion, viewCluster}
 use Rattle.clusters.specs.Columns.{ColumnsOf}
-use Rattle.actions.specs.declared.action.Change.the-variants.{Install}
 use Rattle.actions.specs.Action.{Action, actionsWithin}
 use Rattle.actions.specs.Refusals.{passInTurn}
-use Rattle.state.specs.declared.session.Entry.{Entry}
 use Rattle.state.specs.View.{entriesMost}
 use Rattle.listed_actions.specs.Listed.{entryAction, listedActions}
-use Rattle.listed_actions.specs.InTurn.{passesUntouched, passInTurnOn, passesAt}
+use Rattle.listed_actions.specs.InTurn.{passesUntouched, stagedAfter, passInTurnOn, passesAt}
 use Rattle.listed_actions.proofs.Untouched.{pass-in-turn-is}
-use Rattle.listed_actions.proofs.ColumnTurn.{place-or-first-below, passes-at, at-most-one-more, stops-touched, stops-refused, goes-on}
+use Rattle.listed_actions.proofs.ColumnTurn.{noEntry, place-or-first-below, passes-at, at-most-one-more, stops-touched, stops-refused, goes-on}
 use Rattle.listed_actions.proofs.in_turn.pass_in_turn.Statement.{statement}
 use Rattle.listed_actions.proofs.in_turn.pass_in_turn.Tie as tie
 
@@ -83,10 +81,6 @@ element-copy-out-old c = below c
 passes-at-requires : tie.Need-passes-at-requires Inv-loop μ-loop
 passes-at-requires c κs = search needs
 
--- what the logic reads past the end of the array
-abbrev noEntry : Entry
-noEntry = record { id = 0; action = record { change = Install; cluster = noCluster } }
-
 -- ---- the places on the way to the answer on 12 to 15
 
 abbrev with-place : tie.After-passes-at Inv-loop μ-loop → tie.After-place-or-first Inv-loop μ-loop
@@ -132,12 +126,13 @@ loop-again c =
     let s = x .before .before .before in
     let i = x .before .loop .i in
     let listed = listedActions (s .args .t2) (s .args .count) in
-    let one-more : c .staged-after .result ≤ x .before .loop .staged + 1 = rw (c .staged-after .ensures) (at-most-one-more _ _) in (
+    let e = getD (s .args .t2) i noEntry in
+    let after : c .staged-after .result ≡ stagedAfter (entryAction e) (x .before .loop .staged) = c .staged-after .ensures (viewCluster (e .action .cluster)) in (
       omega (arith, x .loop-test .taken),
-      omega (arith, one-more, x .before .loop .inv .1),
+      omega (arith, after, at-most-one-more (entryAction e) (x .before .loop .staged), x .before .loop .inv .1),
       λ t of w within.
           goes-on t (s .args .t2) (s .args .count) i (x .before .loop .staged) (x .before .before .entry-columns .result .parts) (omega (arith, long s, s .pre .1)) (x .loop-test .taken) (x .before .before .entry-columns .ensures .parts) _ _ (x .before .loop .inv .2 t of w within) (sym (untouched k .before .is-among .ensures) ∙ untouched k .if1 .left) (told-yes _ _ (told k t of) (c .before .if2 .left))
-          ∙ ap (λ (n : ℕ). passInTurnOn t n (take (i + 1) listed) (drop (i + 1) listed)) (sym (c .staged-after .ensures)),
+          ∙ ap (λ (n : ℕ). passInTurnOn t n (take (i + 1) listed) (drop (i + 1) listed)) (sym after),
     )
 
 returns-3 : tie.Need-returns-3 Inv-loop μ-loop

@@ -4,12 +4,13 @@ use borrow.Author.Needs.{needs}
 use native.Mathlib.Omega.{arith}
 use mathlib.Core.Path.{_≡_, refl, ap₂, subst}
 use mathlib.Core.Bool.{Bool}
-use mathlib.Core.List.{List, [], _∷_}
+use mathlib.Core.List.{List, _∷_}
 use Prim.Native.Nat.{ℕ, _+_, _-_, _≤_}
 use lib.ListN.{length, drop, getD}
 use Rattle.base.proofs.Counted.{unmapped}
 use Rattle.model.specs.State.{PackageState, Package}
 use Rattle.model.specs.Areas.{isProcessed, isBeingProcessed, countIn}
+use Rattle.model.specs.Sound.{packagesMost}
 use Rattle.state.specs.View.{clearedPackage, viewPackage, viewPackages}
 use Rattle.soundness.specs.declared.counts.Counts.{Counts}
 use Rattle.soundness.proofs.Along.{packages-step, packages-end}
@@ -26,7 +27,7 @@ Inv-loop t count processed₀ processing₀ i₀ processed processing i =
 abbrev μ-loop : tie.MeasureT-loop
 μ-loop t count processed₀ processing₀ i₀ processed processing i = count - i
 
-long : (c : tie.Start Inv-loop μ-loop) → length (c .args .t1 .packages) ≡ 16
+long : (c : tie.Start Inv-loop μ-loop) → length (c .args .t1 .packages) ≡ packagesMost
 long c = search (needs, unmapped)
 
 loop-holds : tie.Need-loop-holds Inv-loop μ-loop

@@ -10,6 +10,7 @@ use Rattle.base.proofs.Counted.{unmapped}
 use Rattle.base.proofs.Ladder.{told}
 use Rattle.model.proofs.soundness.OfProcessing.{ofProcessing}
 use Rattle.model.proofs.soundness.ProcessingPackage.{processingSize, processing-size}
+use Rattle.model.specs.Sound.{packagesMost}
 use Rattle.state.specs.View.{clearedPackage, viewPackage, viewPackages}
 use Rattle.soundness.proofs.Along.{packages-step, packages-end}
 use Rattle.soundness.proofs.kept.processing_size.Statement.{statement}
@@ -21,7 +22,7 @@ Inv-loop t count i₀ i = (i ≤ count) × (processingSize (viewPackages t) ≡ 
 abbrev μ-loop : tie.MeasureT-loop
 μ-loop t count i₀ i = count - i
 
-long : (c : tie.Start Inv-loop μ-loop) → length (c .args .t1 .packages) ≡ 16
+long : (c : tie.Start Inv-loop μ-loop) → length (c .args .t1 .packages) ≡ packagesMost
 long c = search (needs, unmapped)
 
 step : (c : tie.In-loop Inv-loop μ-loop) → (let t = c .before .before .args .t1 in let i = c .before .loop .i in

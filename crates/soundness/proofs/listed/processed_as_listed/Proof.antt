@@ -7,8 +7,8 @@ use mathlib.Core.List.{List, _∷_, map}
 use Prim.Native.Nat.{_+_, _-_, _≤_}
 use lib.ListN.{length, take, drop, getD}
 use Rattle.base.proofs.Counted.{unmapped}
-use Rattle.model.specs.State.{Package, Entry}
-use Rattle.model.specs.Sound.{processedAsListed}
+use Rattle.model.specs.State.{Entry}
+use Rattle.model.specs.Sound.{packagesMost, processedAsListed}
 use Rattle.state.specs.View.{clearedPackage, viewPackage, viewPackages}
 use Rattle.soundness.specs.Parts.{plainId}
 use Rattle.soundness.proofs.Along.{packages-step, packages-end}
@@ -25,7 +25,7 @@ Inv-loop listed t ids count i₀ i =
 abbrev μ-loop : tie.MeasureT-loop
 μ-loop listed t ids count i₀ i = count - i
 
-long : (c : tie.Start Inv-loop μ-loop) → length (c .args .t1 .packages) ≡ 16
+long : (c : tie.Start Inv-loop μ-loop) → length (c .args .t1 .packages) ≡ packagesMost
 long c = search (needs, unmapped)
 
 step : (c : tie.In-loop Inv-loop μ-loop) → (let a = c .before .before .args in let t = a .t1 in let i = c .before .loop .i in

@@ -3,9 +3,11 @@ use mathlib.Core.Path.{_≡_, sym, _∙_}
 use mathlib.Core.Bool.{true}
 use borrow.Author.Needs.{needs}
 use borrow.Author.Tests.{leb-true, not-true, not-false}
-use Rattle.base.proofs.Tests.{and-left}
+use lib.Dec.{leb}
+use Rattle.base.proofs.Tests.{and-left, and-right}
 use Rattle.base.proofs.Ladder.{and-stop, and-on}
-use Rattle.soundness.proofs.Order.{withinLimits, transfers-limits}
+use Rattle.model.specs.Sound.{packagesMost}
+use Rattle.soundness.proofs.TransferLimits.{withinLimits, transfers-limits}
 use Rattle.soundness.proofs.packages.transfers_sound.Statement.{statement}
 use Rattle.soundness.proofs.packages.transfers_sound.Tie as tie
 
@@ -21,7 +23,10 @@ within : (c : tie.Else1) → (let a = c .before .before .args in withinLimits (a
 within c = not-false _ (c .if1 .left)
 
 packages-rise-requires : tie.Need-packages-rise-requires
-packages-rise-requires c κs = leb-true _ _ (and-left _ _ (within c))
+packages-rise-requires c κs =
+    let a = c .before .before .args in
+    let few = leb (a .t .count) packagesMost in
+    (leb-true _ _ (and-left few _ (within c)), leb-true _ _ (and-left _ _ (and-right few _ (within c))))
 
 returns-2 : tie.Need-returns-2
 returns-2 c =

@@ -1,6 +1,6 @@
 -- `soundness::phases::phase_fits` meets its contract: a case for Processing, one for Idle and one for the others. Assumes nothing.
 use borrow.Author.Needs.{needs}
-use mathlib.Core.Path.{_≡_, sym, ap, _∙_}
+use mathlib.Core.Path.{sym, ap, _∙_}
 use mathlib.Core.Bool.{_&&_}
 use Prim.Native.Nat.{ℕ}
 use lib.Dec.{eqb, leb}

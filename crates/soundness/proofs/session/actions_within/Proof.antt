@@ -8,12 +8,10 @@ use Prim.Native.Nat.{_+_, _-_, _≤_}
 use lib.ListN.{length, drop, getD}
 use Rattle.base.proofs.Counted.{unmapped, from-step, from-end}
 use Rattle.base.proofs.Ladder.{told-no, told-yes}
-use Rattle.clusters.specs.View.{noCluster}
-use Rattle.actions.specs.declared.action.Change.the-variants.{Install}
 use Rattle.actions.specs.Action.{actionsWithin}
-use Rattle.state.specs.declared.session.Entry.{Entry}
 use Rattle.state.specs.View.{entriesMost}
 use Rattle.listed_actions.specs.Listed.{entryAction, listedActions}
+use Rattle.listed_actions.proofs.ColumnTurn.{noEntry}
 use Rattle.soundness.proofs.session.actions_within.Statement.{statement}
 use Rattle.soundness.proofs.session.actions_within.Tie as tie
 
@@ -26,10 +24,6 @@ abbrev μ-loop : tie.MeasureT-loop
 
 long : (c : tie.Start Inv-loop μ-loop) → length (c .args .t1) ≡ entriesMost
 long c = search (needs, unmapped)
-
--- what the logic reads past the end of the array
-abbrev noEntry : Entry
-noEntry = record { id = 0; action = record { change = Install; cluster = noCluster } }
 
 step : (c : tie.In-loop Inv-loop μ-loop) → (let a = c .before .before .args in let i = c .before .loop .i in
     actionsWithin (listedActions (a .t1) (a .count)) ≡ actionsWithin (entryAction (getD (a .t1) i noEntry) ∷ drop (i + 1) (listedActions (a .t1) (a .count))))

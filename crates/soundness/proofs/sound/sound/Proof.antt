@@ -1,7 +1,7 @@
 -- `soundness::sound::sound` meets its contract: each part is told what it needs by those before it. Assumes nothing.
 use borrow.Author.Needs.{needs}
 use mathlib.Core.Path.{_≡_}
-use mathlib.Core.Bool.{true, _&&_}
+use mathlib.Core.Bool.{true}
 use lib.ListN.{length}
 use Rattle.base.proofs.Counted.{unmapped}
 use Rattle.base.proofs.Ladder.{told-no, told-yes}

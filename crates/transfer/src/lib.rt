@@ -1,3 +1,4 @@
 // The calls that bring packages into the store: TransferStart, TransferData and TransferExit.
 pub mod data;
+pub mod exit;
 pub mod start;

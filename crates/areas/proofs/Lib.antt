@@ -1,3 +1,4 @@
 pub mod Along
+pub mod FoundPackage
 pub mod FirstPlaces
 pub mod Kept

@@ -1,3 +1,4 @@
 pub mod Place
+pub mod Changed
 pub mod FirstPlaces
 pub mod Deletion

@@ -4,5 +4,6 @@ pub mod Limits
 pub mod Finding
 pub mod Equal
 pub mod Placing
+pub mod ColumnLaws
 pub mod Views
 pub mod Structs

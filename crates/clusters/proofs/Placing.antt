@@ -14,7 +14,7 @@ use Rattle.clusters.specs.declared.table.Found.the-variants.{At, Nothing
 use Rattle.clusters.specs.Cluster.{Cluster}
 use Rattle.clusters.specs.Table.{Table, find, clustersMost}
 use Rattle.clusters.specs.View.{noCluster, viewCluster, viewTable}
-use Rattle.clusters.specs.Place.{placeFrom, placeOf, foundCluster}
+use Rattle.clusters.specs.Place.{placeAmong, placeFrom, placeOf, foundCluster}
 use Rattle.clusters.proofs.Along.{view-few}
 
 -- ---- the place that is found
@@ -29,7 +29,7 @@ module _ (part : ℕ) (P : Table → ℕ → Type 0) (first : (c : Cluster) (t :
     holds : P t at
 
   holds-from : (base : ℕ) (t : Table) (i : ℕ) → placeFrom base part t ≡ At i → HoldsFrom base t i
-  unfolding placeFrom
+  unfolding placeAmong
   holds-from base [] i e = let z : _≡_ {A = ℕ} 0 1 = cc in absurd (omega arith)
   holds-from base (c ∷ t) i e = go (eqb part (c .part)) refl e (holds-from (base + 1) t i)
     where
@@ -61,7 +61,7 @@ pub place-says : (part : ℕ) (t : Table) (i : ℕ) (d : Cluster) → placeOf pa
 place-says part t i d e = holds-at-place part (Placed part d) (placed-first part d) (placed-further part d) t i e
 
 pub nothing-found : (base part : ℕ) (t : Table) → placeFrom base part t ≡ Nothing → find part t ≡ none
-unfolding placeFrom find
+unfolding placeAmong find
 nothing-found base part [] e = refl
 nothing-found base part (x ∷ t) e = go (eqb part (x .part)) e (nothing-found (base + 1) part t)
   where

@@ -4,4 +4,5 @@ pub mod Table
 pub mod View
 pub mod Struct
 pub mod Place
+pub mod Columns
 pub mod Exact

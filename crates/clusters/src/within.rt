@@ -1,4 +1,5 @@
-// The limits of versions, needs, clusters and tables, checked on any values of the fields.
+// The limits of versions, needs, clusters and tables, checked on any values of the fields. Tests are joined by `&`, which is
+// quicker here than a return at each.
 use crate::cluster::Cluster;
 use crate::cluster::NEEDS_MOST;
 use crate::cluster::Need;
@@ -16,16 +17,9 @@ ghost use Rattle.clusters.specs.View.{viewCluster, viewTable};
 pub fn version_within(v: Version) -> bool
     ensures { λ r. ⌜ r ≡ versionWithin v ⌝ }
 {
-    if v.first > VERSION_PART_MOST {
-        return false;
-    }
-    if v.second > VERSION_PART_MOST {
-        return false;
-    }
-    if v.third > VERSION_PART_MOST {
-        return false;
-    }
-    v.fourth <= VERSION_PART_MOST
+    (v.first <= VERSION_PART_MOST)
+        & ((v.second <= VERSION_PART_MOST)
+            & ((v.third <= VERSION_PART_MOST) & (v.fourth <= VERSION_PART_MOST)))
 }
 
 // The largest part number is the largest of 32 bits.
@@ -38,10 +32,7 @@ pub fn part_within(part: u32) -> bool
 pub fn need_within(n: Need) -> bool
     ensures { λ r. ⌜ r ≡ needWithin n ⌝ }
 {
-    if !part_within(n.part) {
-        return false;
-    }
-    version_within(n.least)
+    part_within(n.part) & version_within(n.least)
 }
 
 // Whether each need of a cluster is within the limits. cluster_within checks their number before.
@@ -64,16 +55,10 @@ fn needs_within(c: Cluster) -> bool
 pub fn cluster_within(c: Cluster) -> bool
     ensures { λ r. ⌜ r ≡ clusterWithin (viewCluster c) ⌝ }
 {
-    if !part_within(c.part) {
-        return false;
-    }
-    if !version_within(c.version) {
-        return false;
-    }
     if c.need_count > NEEDS_MOST {
         return false;
     }
-    needs_within(c)
+    part_within(c.part) & (version_within(c.version) & needs_within(c))
 }
 
 // Whether the clusters are within their limits and in rising part number. table_within checks their number before.
@@ -86,10 +71,7 @@ fn rising(t: Table) -> bool
     let mut i = 0;
     while i < count {
         let c = t.clusters[i];
-        if c.part <= last {
-            return false;
-        }
-        if !cluster_within(c) {
+        if !((last < c.part) & cluster_within(c)) {
             return false;
         }
         last = c.part;

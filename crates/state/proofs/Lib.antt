@@ -2,3 +2,5 @@ pub mod Permitted
 pub mod CountedArrays
 pub mod Views
 pub mod Outcomes
+pub mod Numbers
+pub mod Ways

@@ -1,10 +1,13 @@
 -- What a call gives on the code's structs: its answer, the state and the store then.
 use Prim.Native.Nat.{ℕ}
+use mathlib.Core.Path.{_≡_}
+use mathlib.Core.Bool.{true}
 use mathlib.Core.Option.{Option, none, some}
 use Rattle.base.specs.Refusals.{firstRefusal}
 use Rattle.model.specs.State as model
 use Rattle.model.specs.State.{Store}
 use Rattle.model.specs.Calls as calls
+use Rattle.model.specs.Sound.{sound}
 use Rattle.model.specs.Step as step
 use Rattle.state.specs.declared.state.State.{State}
 use Rattle.state.specs.declared.answer.Answer.{Answer}
@@ -47,6 +50,12 @@ refusedBy s number = answered (Refused number) s
 abbrev pub viewOutcome : Outcome → step.Outcome
 viewOutcome o =
     record { reply = replyOf (o .answered .answer); state = viewState (o .answered .state); store = o .store }
+
+-- an accepted call gives a state that is sound with the store then
+unfoldable pub SoundIfAccepted : Outcome → Type 0
+SoundIfAccepted o =
+    (answer : calls.Answer) → replyOf (o .answered .answer) ≡ calls.accepted answer
+    → sound (viewState (o .answered .state)) (o .store) ≡ true
 
 -- a refused call gives state and store back as they were
 unfoldable pub settled : State → Store → Option ℕ → Outcome → Outcome

@@ -10,7 +10,7 @@ use borrow.Author.Tests.{eq-eqb, ne-eqb}
 use Rattle.base.proofs.Counted.{unmapped}
 use Rattle.clusters.specs.Table.{Table}
 use Rattle.clusters.specs.View.{noCluster, viewCluster, viewTable}
-use Rattle.clusters.specs.Place.{placeFrom, placeOf}
+use Rattle.clusters.specs.Place.{placeAmong, placeFrom, placeOf}
 use Rattle.clusters.proofs.Along.{table-step, table-end}
 use Rattle.clusters.proofs.table.find.Statement.{statement}
 use Rattle.clusters.proofs.table.find.Tie as tie
@@ -40,7 +40,7 @@ element-copy-out-c : tie.Need-element-copy-out-c Inv-loop μ-loop
 element-copy-out-c c = omega arith
 
 returns : tie.Need-returns Inv-loop μ-loop
-unfolding placeFrom
+unfolding placeAmong
 returns c = sym (step (c .before .before .before) ∙ simp (eq-eqb _ _ (c .if1 .taken)))
 
 add-i : tie.Need-add-i Inv-loop μ-loop
@@ -50,11 +50,11 @@ loop-less : tie.Need-loop-less Inv-loop μ-loop
 loop-less c = omega arith
 
 loop-again : tie.Need-loop-again Inv-loop μ-loop
-unfolding placeFrom
+unfolding placeAmong
 loop-again c = (omega arith, step (c .before .before .before) ∙ simp (ne-eqb _ _ (c .if1 .left)))
 
 returns-2 : tie.Need-returns-2 Inv-loop μ-loop
-unfolding placeFrom
+unfolding placeAmong
 returns-2 c =
     let s = c .before .before in
     sym (c .before .loop .inv .1 ∙ rw (table-end (s .args .t1) (s .pre) (long s) (c .before .loop .i) (c .loop-test .left)))

@@ -2,18 +2,36 @@
 -- rises above the last part number. The measure is what is left of the clusters. Assumes nothing.
 use borrow.Author.Needs.{needs}
 use native.Mathlib.Omega.{arith}
-use mathlib.Core.Path.{_≡_, sym, ap, _∙_}
+use mathlib.Core.Path.{_≡_, refl, sym, ap, _∙_}
+use mathlib.Core.Bool.{Bool, true, false, not, _&&_, false≢true}
 use mathlib.Core.List.{_∷_}
-use Prim.Native.Nat.{_+_, _-_, _≤_}
+use Prim.Native.Nat.{ℕ, _+_, _-_, _≤_}
+use lib.Dec.{ltb}
 use lib.ListN.{length, drop, getD}
-use borrow.Author.Tests.{lt-ltb, le-ltb}
+use borrow.Author.Tests.{not-false}
 use Rattle.base.proofs.Counted.{unmapped}
-use Rattle.base.proofs.Ladder.{told-no, told-yes}
+use Rattle.base.proofs.Tests.{and-left, and-right}
+use Rattle.clusters.specs.Cluster.{Cluster, clusterWithin}
 use Rattle.clusters.specs.Table.{Table, risingAbove}
 use Rattle.clusters.specs.View.{noCluster, viewCluster, viewTable}
 use Rattle.clusters.proofs.Along.{table-step, table-end}
 use Rattle.clusters.proofs.within.rising.Statement.{statement}
 use Rattle.clusters.proofs.within.rising.Tie as tie
+
+-- the two tests of a cluster: r is what the call answers
+module _ (last : ℕ) (c : Cluster) (t : Table) (r : Bool) (e : r ≡ clusterWithin c) where
+  stops : not (ltb last (c .part) && r) ≡ true → risingAbove last (c ∷ t) ≡ false
+  unfolding risingAbove
+  stops h = rw (← e) (go (ltb last (c .part)) r h)
+    where
+      go : (a b : Bool) → not (a && b) ≡ true → a && (b && risingAbove (c .part) t) ≡ false
+      go true true k = absurd (false≢true k)
+      go true false k = refl
+      go false b k = refl
+
+  goes-on : not (ltb last (c .part) && r) ≡ false → risingAbove last (c ∷ t) ≡ risingAbove (c .part) t
+  unfolding risingAbove
+  goes-on h = let p = not-false _ h in rw (← e, and-left (ltb last (c .part)) r p, and-right (ltb last (c .part)) r p)
 
 abbrev Inv-loop : tie.InvT-loop
 Inv-loop t count last₀ i₀ last i = (i ≤ count) × (risingAbove 0 (viewTable t) ≡ risingAbove last (drop i (viewTable t)))
@@ -39,18 +57,11 @@ mul-c c = omega arith
 element-copy-out-c : tie.Need-element-copy-out-c Inv-loop μ-loop
 element-copy-out-c c = omega arith
 
-returns : tie.Need-returns Inv-loop μ-loop
-unfolding risingAbove
-returns c = sym (step (c .before .before .before) ∙ simp (le-ltb _ _ (c .if1 .taken)))
-
 cluster-within-requires : tie.Need-cluster-within-requires Inv-loop μ-loop
 cluster-within-requires c κs = search needs
 
-returns-2 : tie.Need-returns-2 Inv-loop μ-loop
-unfolding risingAbove
-returns-2 c =
-    let b = c .before .before in
-    sym (step (b .before .before .before) ∙ simp (lt-ltb _ _ (b .if1 .left), told-no _ _ (c .before .cluster-within .ensures) (c .if2 .taken)))
+returns : tie.Need-returns Inv-loop μ-loop
+returns c = sym (step (c .before .before .before .before) ∙ stops _ _ _ _ (c .before .cluster-within .ensures) (c .if1 .taken))
 
 add-i : tie.Need-add-i Inv-loop μ-loop
 add-i c = omega arith
@@ -59,14 +70,11 @@ loop-less : tie.Need-loop-less Inv-loop μ-loop
 loop-less c = omega arith
 
 loop-again : tie.Need-loop-again Inv-loop μ-loop
-unfolding risingAbove
-loop-again c =
-    let b = c .before .before in
-    (omega arith, step (b .before .before .before) ∙ simp (lt-ltb _ _ (b .if1 .left), told-yes _ _ (c .before .cluster-within .ensures) (c .if2 .left)))
+loop-again c = (omega arith, step (c .before .before .before .before) ∙ goes-on _ _ _ _ (c .before .cluster-within .ensures) (c .if1 .left))
 
-returns-3 : tie.Need-returns-3 Inv-loop μ-loop
+returns-2 : tie.Need-returns-2 Inv-loop μ-loop
 unfolding risingAbove
-returns-3 c =
+returns-2 c =
     let s = c .before .before in
     sym (c .before .loop .inv .1 ∙ rw (table-end (s .args .t1) (s .pre) (long s) (c .before .loop .i) (c .loop-test .left)))
 
@@ -79,10 +87,9 @@ rising-spec =
     loop-holds
     mul-c
     element-copy-out-c
-    returns
     cluster-within-requires
-    returns-2
+    returns
     add-i
     loop-less
     loop-again
-    returns-3)
+    returns-2)

@@ -1,0 +1,153 @@
+-- What a search for the package with an id says to a call on a sound state. Where it finds nothing the id is unknown. Where it finds a
+-- place, the model's package with the id is the one there, its area lies in the store, and a change of it is the model's change.
+-- Assumes nothing.
+use Prim.Native.Nat.{ℕ, suc, _+_, _-_, _≤_, _<_}
+use mathlib.Core.Path.{_≡_, refl, sym, ap, subst, _∙_}
+use mathlib.Core.Bool.{Bool, true, false, cond}
+use mathlib.Core.List.{List, [], _∷_}
+use mathlib.Core.Option.{none, some}
+use native.Mathlib.Omega.{arith}
+use lib.Dec.{eqb, leb}
+use lib.ListN.{length, take, getD, set}
+use borrow.Author.Tests.{le-leb, leb-true}
+use Rattle.base.proofs.Tests.{bool-cases}
+use Rattle.clusters.specs.declared.table.Found.{Found}
+use Rattle.clusters.specs.declared.table.Found.the-variants.{At, Nothing}
+use Rattle.clusters.specs.Exact.{putAt}
+use Rattle.clusters.proofs.Arrays.{set-put}
+use Rattle.model.specs.State as model
+use Rattle.model.specs.State.{Store}
+use Rattle.model.specs.Areas.{declared, find, packageOf, areaStart, changed, isTransferring}
+use Rattle.model.specs.Sound.{storeMost, packagesMost, receivedSound, sound}
+use Rattle.model.specs.Step.{unknown, withPackages}
+use Rattle.model.proofs.soundness.SoundFacts.{Sound, sound-says}
+use Rattle.model.proofs.soundness.Packages.{Fine, found-fine, found-known, found-is}
+use Rattle.model.proofs.soundness.FinePackage.{part, whole}
+use Rattle.model.proofs.store.AreaStart.{area-inside}
+use Rattle.model.proofs.store.PackageAtIndex.{FirstAt, here, there, first-below, first-found, first-start, first-changed}
+use Rattle.state.specs.declared.package.Package.{Package}
+use Rattle.state.specs.declared.transfers.Transfers.{Transfers}
+use Rattle.state.specs.declared.state.State.{State}
+use Rattle.state.specs.View.{viewPackage, clearedPackage, viewPackages, viewTransfers, viewState}
+use Rattle.state.specs.Exact.{withPackage}
+use Rattle.state.proofs.Views.{packages-fit, view-with-package}
+use Rattle.areas.specs.Place.{placeFrom, placeOf}
+use Rattle.areas.specs.Changed.{packageAt, changedAt, withChanged}
+use Rattle.areas.proofs.Along.{packages-length, package-at}
+
+-- of a sound state the count of the packages fits
+pub count-fits : (s : State) (store : Store) → sound (viewState s) store ≡ true → s .transfers .count ≤ packagesMost
+count-fits s store ok = leb-true _ _ (sym (packages-fit (s .transfers)) ∙ le-leb _ _ (sound-says (viewState s) store ok .few))
+
+-- ---- the search
+
+-- a place that is found is that of the first with the id; k is the place of the list's first
+first-from : (k id : ℕ) (ps : List model.Package) (i : ℕ) → placeFrom k id ps ≡ At i → (k ≤ i) × FirstAt id ps (i - k)
+unfolding placeFrom
+first-from k id [] i e = absurd (let z : _≡_ {A = ℕ} 0 1 = cc in omega arith)
+first-from k id (p ∷ ps) i e =
+    let ih : placeFrom (k + 1) id ps ≡ At i → (k + 1 ≤ i) × FirstAt id ps (i - (k + 1)) = first-from (k + 1) id ps i in
+    bool-cases (eqb id (p .id))
+    (λ b. let same : k ≡ i = cc (rw b at e) in
+    let at : 0 ≡ i - k = omega arith in
+    (omega arith, subst (λ (j : ℕ). FirstAt id (p ∷ ps) j) at (here b)))
+    λ b. let later = ih (rw b at e) in
+    let at : suc (i - (k + 1)) ≡ i - k = omega arith in
+    (omega arith, subst (λ (j : ℕ). FirstAt id (p ∷ ps) j) at (there b (later .1)))
+
+pub place-first : (id : ℕ) (ps : List model.Package) (i : ℕ) → placeOf id ps ≡ At i → FirstAt id ps i
+place-first id ps i e = let same : i - 0 ≡ i = omega arith in subst (λ (j : ℕ). FirstAt id ps j) same (first-from 0 id ps i e .1)
+
+-- where nothing is found the id is unknown, and a change by the id changes nothing
+nothing-found : (k id : ℕ) (ps : List model.Package) → placeFrom k id ps ≡ Nothing → find id ps ≡ none
+unfolding placeFrom find
+nothing-found k id [] e = refl
+nothing-found k id (p ∷ ps) e =
+    let ih : placeFrom (k + 1) id ps ≡ Nothing → find id ps ≡ none = nothing-found (k + 1) id ps in
+    bool-cases (eqb id (p .id)) (λ b. let z : _≡_ {A = ℕ} 0 1 = cc (rw b at e) in absurd (omega arith)) λ b. rw b (ih (rw b at e))
+
+nothing-changed : (id : ℕ) (change : model.Package → model.Package) (ps : List model.Package) → find id ps ≡ none → ps ≡ changed id change ps
+unfolding find changed
+nothing-changed id change [] e = refl
+nothing-changed id change (p ∷ ps) e =
+    let ih : find id ps ≡ none → ps ≡ changed id change ps = nothing-changed id change ps in
+    bool-cases (eqb id (p .id)) (λ b. let z : _≡_ {A = ℕ} 0 1 = cc (rw b at e) in absurd (omega arith))
+    λ b. rw b (ap (λ (l : List model.Package). p ∷ l) (ih (rw b at e)))
+
+-- "4. InvalidTransferId: no package has the id": r is what `find` gave
+pub nothing-unknown : (r : Found) (id : ℕ) (ps : List model.Package) → r ≡ placeOf id ps → r ≡ Nothing → unknown id ps ≡ true
+nothing-unknown r id ps e f = rw (unknown, nothing-found 0 id ps (sym e ∙ f))
+
+-- ---- a package found
+
+received-within : (p : model.Package) → receivedSound p ≡ true → p .received ≤ p .size
+received-within p h = bool-cases (isTransferring (p .state)) (λ b. part p b h) λ b. omega (arith, whole p b h)
+
+-- what a call may go by that found its package at the place i
+pub record FoundAt (s : State) (store : Store) (id i : ℕ) : Type 0 where
+  pub few : s .transfers .count ≤ packagesMost
+  pub below : i < s .transfers .count
+  pub place : placeOf id (viewPackages (s .transfers)) ≡ At i
+  pub known : find id (viewPackages (s .transfers)) ≡ some (viewPackage (packageAt (s .transfers) i))
+  pub start : areaStart id (viewPackages (s .transfers)) ≡ declared (take i (viewPackages (s .transfers)))
+  pub area : declared (take i (viewPackages (s .transfers))) + packageAt (s .transfers) i .size ≤ length store
+  pub room : length store ≤ storeMost
+  pub received : packageAt (s .transfers) i .received ≤ packageAt (s .transfers) i .size
+  pub blocks : packageAt (s .transfers) i .blocks ≤ packageAt (s .transfers) i .received
+
+-- r is what `find` gave
+pub found-at : (s : State) (store : Store) (id i : ℕ) (r : Found) → sound (viewState s) store ≡ true
+    → length (s .transfers .packages) ≡ packagesMost → r ≡ placeOf id (viewPackages (s .transfers)) → r ≡ At i → FoundAt s store id i
+found-at s store id i r ok long e f =
+    let t = s .transfers in
+    let ps = viewPackages t in
+    let p = viewPackage (packageAt t i) in
+    let facts = sound-says (viewState s) store ok in
+    let few = count-fits s store ok in
+    let first = place-first id ps i (sym e ∙ f) in
+    let below : i < t .count = omega (arith, first-below first, packages-length t few long) in
+    let known : find id ps ≡ some p = first-found first (viewPackage clearedPackage) ∙ ap some (package-at t few long i below) in
+    let fine = found-fine 0 (t .next) id ps p (facts .rise) known in
+    record {
+      few = few;
+      below = below;
+      place = sym e ∙ f;
+      known = known;
+      start = first-start first;
+      area = omega (arith, area-inside id ps p known, first-start first, facts .fit);
+      room = facts .room;
+      received = received-within p (fine .received);
+      blocks = fine .blocks;
+    }
+
+-- ---- a package changed
+
+module _ (t : Transfers) (few : t .count ≤ packagesMost) (long : length (t .packages) ≡ packagesMost) (id : ℕ) where
+  -- the package changed at its place is the model's package changed by its id
+  pub view-changed : (change : Package → Package) (change′ : model.Package → model.Package)
+      → ((p : Package) → viewPackage (change p) ≡ change′ (viewPackage p))
+      → viewTransfers (withChanged id change t) ≡ withPackages (changed id change′ (viewPackages t)) (viewTransfers t)
+  unfolding withChanged
+  view-changed change change′ same = go (placeOf id (viewPackages t)) refl
+    where
+      ps : List model.Package
+      ps = viewPackages t
+
+      by-packages : {l : List model.Package} → l ≡ changed id change′ ps → withPackages l (viewTransfers t) ≡ withPackages (changed id change′ ps) (viewTransfers t)
+      by-packages e = ap (λ (l : List model.Package). withPackages l (viewTransfers t)) e
+
+      go : (r : Found) → placeOf id ps ≡ r → viewTransfers (changedAt change t r) ≡ withPackages (changed id change′ ps) (viewTransfers t)
+      go Nothing e = by-packages (nothing-changed id change′ ps (nothing-found 0 id ps e))
+      go (At i) e =
+          let first = place-first id ps i e in
+          let below : i < t .count = omega (arith, first-below first, packages-length t few long) in
+          by-packages
+          (view-with-package t i (change (packageAt t i)) few below (omega arith)
+          ∙ ap (λ (p : model.Package). putAt i p ps) (same (packageAt t i) ∙ ap change′ (sym (package-at t few long i below)))
+          ∙ sym (first-changed first change′ (viewPackage clearedPackage) ∙ set-put ps i _ (first-below first)))
+
+-- t′ has the changed package at its place
+pub changed-at : (s : State) (store : Store) (id i : ℕ) (change : Package → Package) (t′ : Transfers) → FoundAt s store id i
+    → t′ ≡ withPackage i (change (packageAt (s .transfers) i)) (s .transfers) → t′ ≡ withChanged id change (s .transfers)
+unfolding withChanged
+changed-at s store id i change t′ found e = e ∙ ap (changedAt change (s .transfers)) (sym (found .place))

@@ -1,0 +1,56 @@
+-- What is found in the columns of a table is what is found in the table, and how a loop fills a column. Assumes nothing.
+use Prim.Native.Nat.{ℕ, _+_, _<_}
+use mathlib.Core.Path.{_≡_, refl, sym, ap, _∙_}
+use mathlib.Core.List.{List, [], _∷_, map, map-append}
+use mathlib.Core.Option.{none, some}
+use native.Mathlib.Numerals.{add-one}
+use native.Mathlib.Omega.{arith}
+use lib.ListN.{length, take, getD, set, List·getD-map}
+use lib.Seq.{getD-take, take-suc, take-suc-set}
+use Rattle.text.specs.declared.version.Version.{Version}
+use Rattle.clusters.specs.declared.table.Found.the-variants.{At, Nothing}
+use Rattle.clusters.specs.declared.columns.Columns.{Columns}
+use Rattle.clusters.specs.Cluster.{Cluster, cluster}
+use Rattle.clusters.specs.Table.{Table, find}
+use Rattle.clusters.specs.Place.{placeAmong, placeOf}
+use Rattle.clusters.specs.Columns.{versionOf, ColumnsOf}
+use Rattle.clusters.proofs.Placing.{place-says, nothing-found}
+
+-- ---- a column that a loop fills: one element more
+
+pub fill-step : {A B : Type 0} (f : A → B) (xs : List A) (ys : List B) (i : ℕ) (d : A) → i < length xs → i < length ys → take i ys ≡ map f (take i xs)
+    → take (i + 1) (set ys i (f (getD xs i d))) ≡ map f (take (i + 1) xs)
+fill-step f xs ys i d h l e =
+    rw (add-one i, take-suc-set ys i (f (getD xs i d)) l, take-suc xs i d h, map-append f (take i xs) (getD xs i d ∷ []), e)
+
+pub map-twice : {A B C : Type 0} (f : A → B) (g : B → C) (xs : List A) → map g (map f xs) ≡ map (λ x. g (f x)) xs
+map-twice f g [] = refl
+map-twice f g (x ∷ xs) = ap (λ (l : List _). g (f x) ∷ l) (map-twice f g xs)
+
+-- ---- what is found in the columns is what is found in the table
+
+module _ (columns : Columns) (t : Table) (of : ColumnsOf columns t) (part : ℕ) where
+  same-place : placeAmong 0 part (take (columns .count) (columns .parts)) ≡ placeOf part t
+  same-place = ap (placeAmong 0 part) (of .parts)
+
+  pub none-among : placeAmong 0 part (take (columns .count) (columns .parts)) ≡ Nothing → find part t ≡ none
+  none-among e = nothing-found 0 part t (sym same-place ∙ e)
+
+  -- the cluster with the part number is found, and its version stands at the same place
+  pub record FoundAmong (i : ℕ) (v : Version) : Type 0 where
+    pub below : i < columns .count
+    pub found : Cluster
+    pub there : find part t ≡ some found
+    pub same-version : getD (columns .versions) i v ≡ found .version
+
+  pub found-among : (i : ℕ) (v : Version) → placeAmong 0 part (take (columns .count) (columns .parts)) ≡ At i → FoundAmong i v
+  found-among i v e =
+      let d = cluster 0 v [] in
+      let p = place-says part t i d (sym same-place ∙ e) in
+      let l : i < columns .count = omega (arith, p .below, of .size) in
+      record {
+        below = l;
+        found = getD t i d;
+        there = p .there;
+        same-version = sym (getD-take (columns .count) (columns .versions) i v l) ∙ ap (λ (versions : List Version). getD versions i v) (of .versions) ∙ List·getD-map versionOf t i d;
+      }

@@ -1,0 +1,63 @@
+// The part numbers and versions of a table, taken out once: a search passes a column of 256 bytes and not the table.
+use crate::table::CLUSTERS_MOST;
+use crate::table::Found;
+use crate::table::Table;
+use text::version::Version;
+ghost use mathlib.Core.Path.{_≡_};
+ghost use Prim.Native.Nat.{_≤_};
+ghost use lib.ListN.{length, take};
+ghost use Rattle.clusters.specs.Table.{clustersMost};
+ghost use Rattle.clusters.specs.View.{viewTable};
+ghost use Rattle.clusters.specs.Place.{placeAmong};
+ghost use Rattle.clusters.specs.Columns.{ColumnsOf};
+
+// The first count places of each column count; the places behind them are unused.
+pub struct Columns {
+    pub parts: [u32; CLUSTERS_MOST],
+    pub versions: [Version; CLUSTERS_MOST],
+    pub count: usize,
+}
+
+// The columns of a table. The check of the limits of the table meets what is required.
+pub fn columns_of(t: Table) -> Columns
+    requires { ⌜ t .count ≤ clustersMost ⌝ }
+    ensures { λ r. ⌜ ColumnsOf r (viewTable t) ⌝ }
+{
+    let no_version = Version {
+        first: 0,
+        second: 0,
+        third: 0,
+        fourth: 0,
+    };
+    let mut parts = [0u32; CLUSTERS_MOST];
+    let mut versions = [no_version; CLUSTERS_MOST];
+    let count = t.count;
+    let mut i = 0;
+    while i < count {
+        let c = t.clusters[i];
+        parts[i] = c.part;
+        let version = c.version;
+        versions[i] = version;
+        i += 1;
+    }
+    Columns {
+        parts: parts,
+        versions: versions,
+        count: count,
+    }
+}
+
+// Where a part number stands among the first of a column. The columns of a table meet what is required.
+pub fn place_of(parts: &[u32; CLUSTERS_MOST], count: usize, part: u32) -> Found
+    requires { ⌜ (count ≤ clustersMost) × (length (now parts) ≡ clustersMost) ⌝ }
+    ensures { λ r. ⌜ r ≡ placeAmong 0 part (take count (now (parts .entry))) ⌝ }
+{
+    let mut i = 0;
+    while i < count {
+        if part == parts[i] {
+            return Found::At(i);
+        }
+        i += 1;
+    }
+    Found::Nothing
+}

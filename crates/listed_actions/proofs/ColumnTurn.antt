@@ -1,0 +1,170 @@
+-- One turn of the loop over the listed actions: what the columns of the table and of the list say of the entry at i. Assumes nothing.
+use Prim.Native.Nat.{ℕ, _+_, _≤_, _<_}
+use mathlib.Core.Path.{_≡_, refl, sym, ap, _∙_}
+use mathlib.Core.Bool.{Bool, true, false}
+use mathlib.Core.List.{List, [], _∷_, _++_, map}
+use mathlib.Core.Option.{none, some}
+use native.Mathlib.Omega.{arith}
+use native.Mathlib.Numerals.{add-one}
+use lib.Dec.{eqb, ltb}
+use lib.ListN.{length, take, drop, getD, length-map, length-take, List·getD-map}
+use lib.Seq.{getD-take, take-suc, take-take}
+use borrow.Author.Tests.{ltb-true, ltb-false, le-leb, lt-leb}
+use Rattle.base.specs.Refusals.{noneApplies}
+use Rattle.base.proofs.Tests.{bool-cases}
+use Rattle.base.proofs.Counted.{from-step}
+use Rattle.text.specs.declared.version.Version.{Version}
+use Rattle.clusters.specs.declared.table.Found.{Found}
+use Rattle.clusters.specs.declared.table.Found.the-variants.{At, Nothing}
+use Rattle.clusters.specs.declared.columns.Columns.{Columns}
+use Rattle.clusters.specs.Version.{above}
+use Rattle.clusters.specs.Cluster.{Cluster}
+use Rattle.clusters.specs.Table.{Table, find, present, clustersMost}
+use Rattle.clusters.specs.View.{viewCluster}
+use Rattle.clusters.specs.Place.{placeAmong}
+use Rattle.clusters.specs.Columns.{ColumnsOf}
+use Rattle.clusters.proofs.Finding.{present-none, present-some}
+use Rattle.clusters.proofs.ColumnLaws.{none-among, found-among}
+use Rattle.actions.specs.declared.action.Change.{Change}
+use Rattle.actions.specs.declared.action.Change.the-variants.{Install, Update, Remove}
+use Rattle.actions.specs.Action.{Action, update, actionPart}
+use Rattle.actions.specs.Refusals.{touched, clusterPresent, clusterAbsent, oldVersion}
+use Rattle.actions.specs.View.{actionOf}
+use Rattle.actions.proofs.Arrays.{map-take}
+use Rattle.state.specs.declared.session.Entry.{Entry}
+use Rattle.listed_actions.specs.Listed.{isAmong, entryAction, listedActions, entryPart}
+use Rattle.listed_actions.specs.InTurn.{fullWith, passesUntouched, stagedAfter, passInTurnOn, placeOrFirst, passesAbsent, passesPresent, passesAt, stagedAfterChange}
+
+-- ---- the place of an old version is in the array
+
+place-below : (base part : ℕ) (l : List ℕ) (i : ℕ) → placeAmong base part l ≡ At i → i < base + length l
+unfolding placeAmong
+place-below base part [] i e = let z : _≡_ {A = ℕ} 0 1 = cc in absurd (omega arith)
+place-below base part (p ∷ l) i e =
+    let ih : placeAmong (base + 1) part l ≡ At i → i < base + 1 + length l = place-below (base + 1) part l i in
+    bool-cases (eqb part p)
+    (λ z. let same : At base ≡ At i = rw z at e in let s : base ≡ i = cc in omega arith)
+    λ z. omega (arith, ih (rw z at e))
+
+pub place-or-first-below : (part n most : ℕ) (l : List ℕ) (place : Found) → n ≤ most → 1 ≤ most → place ≡ placeAmong 0 part (take n l) → placeOrFirst place < most
+place-or-first-below part n most l Nothing few room e = omega arith
+place-or-first-below part n most l (At i) few room e = omega (arith, place-below 0 part (take n l) i (sym e), length-take n l)
+
+-- ---- 12 to 15 by what is found in the columns
+
+module _ (t : Table) (n : ℕ) (c : Cluster) where
+  absent-passes : (change : Change) → find (c .part) t ≡ none → passesAbsent change n ≡ passesUntouched t n (actionOf change c)
+  unfolding passesUntouched noneApplies clusterPresent clusterAbsent oldVersion fullWith
+  absent-passes Install e =
+      rw (present-none (c .part) t e)
+      (bool-cases (ltb n clustersMost)
+      (λ z. rw (z, lt-leb clustersMost n (ltb-true n clustersMost z)))
+      λ z. rw (z, le-leb clustersMost n (ltb-false n clustersMost z)))
+  absent-passes Update e = rw (present-none (c .part) t e)
+  absent-passes Remove e = rw (present-none (c .part) t e)
+
+  newer-passes : (d : Cluster) → find (c .part) t ≡ some d → above (c .version) (d .version) ≡ passesUntouched t n (update c)
+  unfolding passesUntouched noneApplies clusterPresent clusterAbsent oldVersion fullWith
+  newer-passes d e =
+      rw (present-some (c .part) t d e, oldVersion, e) (bool-cases (above (c .version) (d .version)) (λ z. rw z) λ z. rw z)
+
+  present-passes : (change : Change) (d : Cluster) → find (c .part) t ≡ some d
+      → passesPresent change (c .version) (d .version) ≡ passesUntouched t n (actionOf change c)
+  unfolding passesUntouched noneApplies clusterPresent clusterAbsent oldVersion fullWith
+  present-passes Install d e = rw (present-some (c .part) t d e)
+  present-passes Update d e = newer-passes d e
+  present-passes Remove d e = rw (present-some (c .part) t d e)
+
+-- the place that is found in the columns of the table decides
+pub passes-at : (columns : Columns) (t : Table) → ColumnsOf columns t → (n : ℕ) (change : Change) (c : Cluster) (v : Version) (place : Found)
+    → place ≡ placeAmong 0 (c .part) (take (columns .count) (columns .parts))
+    → passesAt place (getD (columns .versions) (placeOrFirst place) v) n change (c .version) ≡ passesUntouched t n (actionOf change c)
+passes-at columns t of n change c v Nothing e = absent-passes t n c change (none-among columns t of (c .part) (sym e))
+passes-at columns t of n change c v (At i) e =
+    let f = found-among columns t of (c .part) i v (sym e) in
+    ap (passesPresent change (c .version)) (f .same-version) ∙ present-passes t n c change (f .found) (f .there)
+
+-- ---- the list's columns
+
+part-of : (change : Change) (c : Cluster) → actionPart (actionOf change c) ≡ c .part
+part-of Install c = refl
+part-of Update c = refl
+part-of Remove c = refl
+
+same-staged : (change : Change) (c : Cluster) (n : ℕ) → stagedAfterChange change n ≡ stagedAfter (actionOf change c) n
+unfolding stagedAfter stagedAfterChange
+same-staged Install c n = refl
+same-staged Update c n = refl
+same-staged Remove c n = refl
+
+pub at-most-one-more : (change : Change) (n : ℕ) → stagedAfterChange change n ≤ n + 1
+unfolding stagedAfterChange
+at-most-one-more Install n = omega arith
+at-most-one-more Update n = omega arith
+at-most-one-more Remove n = omega arith
+
+entry-part : (e : Entry) → actionPart (entryAction e) ≡ entryPart e
+entry-part e = part-of (e .action .change) (viewCluster (e .action .cluster))
+
+among-touched : (part : ℕ) (es : List Entry) → isAmong part (map entryPart es) ≡ touched part (map entryAction es)
+unfolding isAmong touched
+among-touched part [] = refl
+among-touched part (e ∷ es) = rw (entry-part e, among-touched part es)
+
+-- the first i of the column of part numbers, and those of the list
+column-touched : (part count i : ℕ) (parts : List ℕ) (entries : List Entry) → i ≤ count → take count parts ≡ map entryPart (take count entries)
+    → isAmong part (take i parts) ≡ touched part (take i (listedActions entries count))
+column-touched part count i parts entries h e =
+    let es = take i (take count entries) in
+    let a : take i parts ≡ map entryPart es = sym (take-take i count parts h) ∙ ap (λ (l : List ℕ). take i l) e ∙ sym (map-take entryPart i (take count entries)) in
+    ap (isAmong part) a ∙ among-touched part es ∙ ap (touched part) (map-take entryAction i (take count entries))
+
+-- the first i + 1 of the list
+one-more-listed : (entries : List Entry) (count i : ℕ) (d : Entry) → count ≤ length entries → i < count
+    → take (i + 1) (listedActions entries count) ≡ take i (listedActions entries count) ++ entryAction (getD entries i d) ∷ []
+one-more-listed entries count i d le h =
+    let l : i < length (listedActions entries count) = omega (arith, length-map (take count entries) entryAction, length-take count entries) in
+    rw add-one (take-suc (listedActions entries count) i (entryAction d) l)
+    ∙ ap (λ (a : Action). take i (listedActions entries count) ++ a ∷ []) (List·getD-map entryAction (take count entries) i d ∙ ap entryAction (getD-take count entries i d h))
+
+-- ---- a turn of the loop
+
+module _ (b : Table) (n : ℕ) (listed : List Action) (a : Action) (rest : List Action) where
+  turn-touched : touched (actionPart a) listed ≡ true → passInTurnOn b n listed (a ∷ rest) ≡ false
+  unfolding passInTurnOn
+  turn-touched u = rw u
+
+  turn-refused : touched (actionPart a) listed ≡ false → passesUntouched b n a ≡ false → passInTurnOn b n listed (a ∷ rest) ≡ false
+  unfolding passInTurnOn
+  turn-refused u p = rw (u, p)
+
+  turn-passed : touched (actionPart a) listed ≡ false → passesUntouched b n a ≡ true
+      → passInTurnOn b n listed (a ∷ rest) ≡ passInTurnOn b (stagedAfter a n) (listed ++ a ∷ []) rest
+  unfolding passInTurnOn
+  turn-passed u p = rw (u, p)
+
+-- `whole` is what is asked of the whole list, and the entry at i is the next; d stands in for places past the array
+module _ (b : Table) (entries : List Entry) (count i n : ℕ) (parts : List ℕ) (le : count ≤ length entries) (h : i < count)
+    (column : take count parts ≡ map entryPart (take count entries)) (d : Entry) (whole : Bool)
+    (so-far : whole ≡ passInTurnOn b n (take i (listedActions entries count)) (drop i (listedActions entries count))) where
+  here : whole ≡ passInTurnOn b n (take i (listedActions entries count)) (entryAction (getD entries i d) ∷ drop (i + 1) (listedActions entries count))
+  here = so-far ∙ ap (λ (l : List Action). passInTurnOn b n (take i (listedActions entries count)) l) (from-step entryAction entries count le i d h)
+
+  touched-here : isAmong (entryPart (getD entries i d)) (take i parts) ≡ touched (actionPart (entryAction (getD entries i d))) (take i (listedActions entries count))
+  touched-here =
+      column-touched _ count i parts entries (omega arith) column
+      ∙ ap (λ (p : ℕ). touched p (take i (listedActions entries count))) (sym (entry-part (getD entries i d)))
+
+  pub stops-touched : isAmong (entryPart (getD entries i d)) (take i parts) ≡ true → false ≡ whole
+  stops-touched u = sym (here ∙ turn-touched b n _ _ _ (sym touched-here ∙ u))
+
+  pub stops-refused : isAmong (entryPart (getD entries i d)) (take i parts) ≡ false → passesUntouched b n (entryAction (getD entries i d)) ≡ false → false ≡ whole
+  stops-refused u p = sym (here ∙ turn-refused b n _ _ _ (sym touched-here ∙ u) p)
+
+  pub goes-on : isAmong (entryPart (getD entries i d)) (take i parts) ≡ false → passesUntouched b n (entryAction (getD entries i d)) ≡ true
+      → whole ≡ passInTurnOn b (stagedAfterChange (getD entries i d .action .change) n) (take (i + 1) (listedActions entries count)) (drop (i + 1) (listedActions entries count))
+  goes-on u p =
+      let a = getD entries i d .action in
+      here ∙ turn-passed b n _ _ _ (sym touched-here ∙ u) p
+      ∙ ap (λ (l : List Action). passInTurnOn b (stagedAfter (entryAction (getD entries i d)) n) l (drop (i + 1) (listedActions entries count))) (sym (one-more-listed entries count i d le h))
+      ∙ ap (λ (k : ℕ). passInTurnOn b k (take (i + 1) (listedActions entries count)) (drop (i + 1) (listedActions entries count))) (sym (same-staged (a .change) (viewCluster (a .cluster)) n))

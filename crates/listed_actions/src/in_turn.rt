@@ -1,0 +1,109 @@
+// The refusals 11 to 15 of the listed actions, in turn.
+use crate::columns::entry_columns;
+use crate::columns::is_among;
+use actions::action::Change;
+use clusters::columns::Columns;
+use clusters::columns::place_of;
+use clusters::table::CLUSTERS_MOST;
+use clusters::table::Found;
+use clusters::version::above;
+use state::limits::ENTRIES_MOST;
+use state::session::Entry;
+use text::version::Version;
+ghost use mathlib.Core.Path.{_≡_};
+ghost use mathlib.Core.Bool.{true};
+ghost use mathlib.Core.List.{[]};
+ghost use Prim.Native.Nat.{_+_, _≤_, _<_};
+ghost use Rattle.clusters.specs.Table.{Table as PlainTable, tableWithin, clustersMost};
+ghost use Rattle.clusters.specs.Columns.{ColumnsOf};
+ghost use Rattle.actions.specs.Action.{actionsWithin};
+ghost use Rattle.actions.specs.Refusals.{passInTurn};
+ghost use Rattle.state.specs.View.{entriesMost};
+ghost use Rattle.listed_actions.specs.Listed.{listedActions};
+ghost use Rattle.listed_actions.specs.InTurn.{placeOrFirst, passesAbsent, passesPresent, passesAt, stagedAfterChange};
+
+// A place to read a version from, where the cluster is there or not.
+fn place_or_first(place: Found) -> usize
+    ensures { λ r. ⌜ r ≡ placeOrFirst place ⌝ }
+{
+    match place {
+        Found::At(i) => i,
+        Found::Nothing => 0,
+    }
+}
+
+// 12 to 15 of a change to a cluster that is not there, with a number of clusters staged.
+fn passes_absent(change: Change, staged: usize) -> bool
+    ensures { λ r. ⌜ r ≡ passesAbsent change staged ⌝ }
+{
+    match change {
+        Change::Install => staged < CLUSTERS_MOST,
+        Change::Update => false,
+        Change::Remove => false,
+    }
+}
+
+// 12 to 15 of a change to a cluster that is there with the old version.
+fn passes_present(change: Change, version: Version, old: Version) -> bool
+    ensures { λ r. ⌜ r ≡ passesPresent change version old ⌝ }
+{
+    match change {
+        Change::Install => false,
+        Change::Update => above(version, old),
+        Change::Remove => true,
+    }
+}
+
+// 12 to 15 of a change to a cluster by its place in the beginning table, which no listed action touches.
+fn passes_at(place: Found, old: Version, staged: usize, change: Change, version: Version) -> bool
+    ensures { λ r. ⌜ r ≡ passesAt place old staged change version ⌝ }
+{
+    match place {
+        Found::At(_) => passes_present(change, version, old),
+        Found::Nothing => passes_absent(change, staged),
+    }
+}
+
+// The number of staged clusters after a change. pass_in_turn starts with the number of a table's clusters and adds at most one for
+// each entry.
+fn staged_after(change: Change, staged: usize) -> usize
+    requires { ⌜ staged < clustersMost + entriesMost ⌝ }
+    ensures { λ r. ⌜ r ≡ stagedAfterChange change staged ⌝ }
+{
+    match change {
+        Change::Install => staged + 1,
+        Change::Update => staged,
+        Change::Remove => if staged < 1 { 0 } else { staged - 1 },
+    }
+}
+
+// Whether the first count of the listed actions pass 11 to 15 in turn on the table that the columns are of. The table and the
+// actions are within their limits; soundness checks that before, and that the counts fit.
+pub fn pass_in_turn(columns: Columns, entries: [Entry; ENTRIES_MOST], count: usize) -> bool
+    requires { ⌜ (columns .count ≤ clustersMost) × (count ≤ entriesMost) ⌝ }
+    ensures { λ r. ⌜ ((t : PlainTable) → ColumnsOf columns t → tableWithin t ≡ true → actionsWithin (listedActions entries count) ≡ true → r ≡ passInTurn t [] (listedActions entries count)) ⌝ }
+{
+    let listed = entry_columns(entries, count);
+    let clusters = columns.count;
+    let mut staged = clusters;
+    let mut i = 0;
+    while i < count {
+        let entry = entries[i];
+        let action = entry.action;
+        let cluster = action.cluster;
+        if is_among(&listed.parts, i, cluster.part) {
+            return false;
+        }
+        let place = place_of(&columns.parts, clusters, cluster.part);
+        let at = place_or_first(place);
+        let old = columns.versions[at];
+        let change = action.change;
+        let version = cluster.version;
+        if !passes_at(place, old, staged, change, version) {
+            return false;
+        }
+        staged = staged_after(change, staged);
+        i += 1;
+    }
+    true
+}

@@ -1,0 +1,96 @@
+// The kept values, with the session that they stand behind.
+use crate::phases::is_processing;
+use crate::session::session_sound;
+use actions::action::Action;
+use clusters::table::Table;
+use state::limits::ENTRIES_MOST;
+use state::limits::SUM_MOST;
+use state::package::is_being_processed;
+use state::phase::Phase;
+use state::session::Entry;
+use state::transfers::Transfers;
+use state::work::Work;
+use state::work::is_cleared_work;
+ghost use mathlib.Core.Path.{_≡_};
+ghost use mathlib.Core.Bool.{true, cond, _&&_};
+ghost use mathlib.Core.List.{[], _∷_, _++_};
+ghost use Prim.Native.Nat.{_+_, _≤_, _<_};
+ghost use Rattle.actions.specs.View.{viewAction};
+ghost use Rattle.model.specs.State.{isProcessing};
+ghost use Rattle.model.specs.Areas.{packageOf, processingId};
+ghost use Rattle.model.specs.Sound.{packagesMost, packagesRise, sessionSound, keptSound};
+ghost use Rattle.state.specs.View.{viewPackages, viewPhase, viewWork, entriesMost};
+ghost use Rattle.listed_actions.specs.Listed.{listedActions};
+ghost use Rattle.soundness.specs.Parts.{countedSession, workNumbersSound};
+
+// The size of the package that is processing, and 0 where none is. transfers_sound checks before what is required.
+fn processing_size(t: Transfers) -> u32
+    requires { ⌜ (t .count ≤ packagesMost) × (packagesRise 0 (t .next) (viewPackages t) ≡ true) ⌝ }
+    ensures { λ r. ⌜ r ≡ packageOf (processingId (viewPackages t)) (viewPackages t) .size ⌝ }
+{
+    let count = t.count;
+    let mut i = 0;
+    while i < count {
+        let p = t.packages[i];
+        let state = p.state;
+        if is_being_processed(state) {
+            return p.size;
+        }
+        i += 1;
+    }
+    0
+}
+
+// Whether the kept numbers are those of a package of a size. A sum of two numbers of 32 bits does not wrap in 64.
+fn numbers_sound(w: Work, size: u32) -> bool
+    ensures { λ r. ⌜ r ≡ workNumbersSound w size ⌝ }
+{
+    let sums = w.running_sums;
+    (w.start as u64 + w.count as u64 == size as u64)
+        & ((w.done <= w.count) & ((w.sum <= SUM_MOST) & ((sums.c0 <= 254) & (sums.c1 <= 254))))
+}
+
+// The entries with an action behind the first count of them. Where a package is processing there is room for its action.
+fn with_action(
+    entries: [Entry; ENTRIES_MOST],
+    count: usize,
+    action: Action,
+) -> [Entry; ENTRIES_MOST]
+    requires { ⌜ count < entriesMost ⌝ }
+    ensures { λ r. ⌜ listedActions r (count + 1) ≡ listedActions entries count ++ viewAction action ∷ [] ⌝ }
+{
+    let mut more = entries;
+    more[count] = Entry {
+        id: 0,
+        action: action,
+    };
+    more
+}
+
+// Whether the session is sound and so are the kept values: in Processing their action passes after the listed ones, outside it they are
+// cleared. transfers_sound and list_sound check before what is required.
+pub fn session_and_kept_sound(
+    phase: Phase,
+    t: Transfers,
+    beginning: Table,
+    entries: [Entry; ENTRIES_MOST],
+    count: usize,
+    w: Work,
+) -> bool
+    requires { ⌜ (t .count ≤ packagesMost) × (packagesRise 0 (t .next) (viewPackages t) ≡ true) × (count + cond (isProcessing (viewPhase phase)) 1 0 ≤ entriesMost) ⌝ }
+    ensures { λ r. ⌜ r ≡ sessionSound (countedSession beginning entries count) && keptSound (viewPhase phase) (countedSession beginning entries count) (viewPackages t) (viewWork w) ⌝ }
+{
+    if !is_processing(phase) {
+        if !is_cleared_work(w) {
+            return false;
+        }
+        return session_sound(beginning, entries, count);
+    }
+    let size = processing_size(t);
+    if !numbers_sound(w, size) {
+        return false;
+    }
+    let action = w.action;
+    let more = with_action(entries, count, action);
+    session_sound(beginning, more, count + 1)
+}

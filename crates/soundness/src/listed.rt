@@ -1,0 +1,55 @@
+// The session's list and the packages that are Processed.
+use crate::counts::count_states;
+use crate::phases::phase_fits;
+use listed_actions::columns::entry_columns;
+use listed_actions::columns::is_among;
+use state::limits::ENTRIES_MOST;
+use state::package::is_processed;
+use state::phase::Phase;
+use state::session::Entry;
+use state::transfers::Transfers;
+ghost use mathlib.Core.Path.{_≡_};
+ghost use mathlib.Core.Bool.{_&&_};
+ghost use mathlib.Core.List.{List, map};
+ghost use Prim.Native.Nat.{_≤_};
+ghost use lib.ListN.{take};
+ghost use Rattle.model.specs.State.{Entry as PlainEntry};
+ghost use Rattle.model.specs.Sound.{packagesMost, processedAsListed, listSound, processingSound, listFits};
+ghost use Rattle.state.specs.View.{viewPackages, viewPhase, entriesMost};
+ghost use Rattle.soundness.specs.Parts.{plainId, countedEntries};
+
+// Whether exactly the packages that are Processed have their ids among those listed. list_sound meets what is required.
+fn processed_as_listed(t: Transfers, ids: [u32; ENTRIES_MOST], listed: usize) -> bool
+    requires { ⌜ (t .count ≤ packagesMost) × (listed ≤ entriesMost) ⌝ }
+    ensures { λ r. ⌜ ((entries : List PlainEntry) → take listed ids ≡ map plainId entries → r ≡ processedAsListed entries (viewPackages t)) ⌝ }
+{
+    let count = t.count;
+    let mut i = 0;
+    while i < count {
+        let p = t.packages[i];
+        let state = p.state;
+        if is_processed(state) != is_among(&ids, listed, p.id) {
+            return false;
+        }
+        i += 1;
+    }
+    true
+}
+
+// Whether the listed entries are those of exactly the Processed packages, and the manager's state goes with their number and with
+// the packages that are Processing. transfers_sound checks the number of packages before.
+pub fn list_sound(phase: Phase, t: Transfers, entries: [Entry; ENTRIES_MOST], count: usize) -> bool
+    requires { ⌜ t .count ≤ packagesMost ⌝ }
+    ensures { λ r. ⌜ r ≡ listSound (countedEntries entries count) (viewPackages t) && (processingSound (viewPhase phase) (viewPackages t) && listFits (viewPhase phase) (countedEntries entries count)) ⌝ }
+{
+    let counts = count_states(t);
+    if count != counts.processed {
+        return false;
+    }
+    if !phase_fits(phase, counts.processing, count) {
+        return false;
+    }
+    let columns = entry_columns(entries, count);
+    let ids = columns.ids;
+    processed_as_listed(t, ids, count)
+}

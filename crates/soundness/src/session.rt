@@ -1,0 +1,67 @@
+// The beginning table and the listed actions.
+use actions::action::Action;
+use actions::action::Change;
+use clusters::columns::columns_of;
+use clusters::table::Table;
+use clusters::within::cluster_within;
+use clusters::within::part_within;
+use clusters::within::table_within;
+use listed_actions::in_turn::pass_in_turn;
+use state::limits::ENTRIES_MOST;
+use state::session::Entry;
+ghost use mathlib.Core.Path.{_≡_};
+ghost use mathlib.Core.Bool.{_&&_};
+ghost use mathlib.Core.List.{[]};
+ghost use Prim.Native.Nat.{_≤_};
+ghost use Rattle.clusters.specs.Table.{tableWithin};
+ghost use Rattle.clusters.specs.View.{viewTable};
+ghost use Rattle.actions.specs.Action.{actionWithin, actionsWithin};
+ghost use Rattle.actions.specs.Refusals.{passInTurn};
+ghost use Rattle.actions.specs.View.{viewAction};
+ghost use Rattle.state.specs.View.{entriesMost};
+ghost use Rattle.listed_actions.specs.Listed.{listedActions};
+
+fn action_within(action: Action) -> bool
+    ensures { λ r. ⌜ r ≡ actionWithin (viewAction action) ⌝ }
+{
+    let change = action.change;
+    let cluster = action.cluster;
+    match change {
+        Change::Install => cluster_within(cluster),
+        Change::Update => cluster_within(cluster),
+        Change::Remove => part_within(cluster.part),
+    }
+}
+
+// session_sound passes on what it requires of their number.
+fn actions_within(entries: [Entry; ENTRIES_MOST], count: usize) -> bool
+    requires { ⌜ count ≤ entriesMost ⌝ }
+    ensures { λ r. ⌜ r ≡ actionsWithin (listedActions entries count) ⌝ }
+{
+    let mut i = 0;
+    while i < count {
+        let entry = entries[i];
+        let action = entry.action;
+        if !action_within(action) {
+            return false;
+        }
+        i += 1;
+    }
+    true
+}
+
+// Whether the beginning table and the first count of the listed actions are within their limits and the actions pass 11 to 15 in
+// turn. list_sound sees before that there is room for them.
+pub fn session_sound(beginning: Table, entries: [Entry; ENTRIES_MOST], count: usize) -> bool
+    requires { ⌜ count ≤ entriesMost ⌝ }
+    ensures { λ r. ⌜ r ≡ tableWithin (viewTable beginning) && (actionsWithin (listedActions entries count) && passInTurn (viewTable beginning) [] (listedActions entries count)) ⌝ }
+{
+    if !table_within(beginning) {
+        return false;
+    }
+    if !actions_within(entries, count) {
+        return false;
+    }
+    let columns = columns_of(beginning);
+    pass_in_turn(columns, entries, count)
+}

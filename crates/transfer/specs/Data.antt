@@ -1,0 +1,52 @@
+-- TransferData on the code's structs.
+use Prim.Native.Nat.{ℕ, _+_, _≤_, _<_}
+use mathlib.Core.Bool.{not, _||_}
+use mathlib.Core.List.{List, [], _∷_}
+use lib.Dec.{eqb, ltb}
+use lib.ListN.{length, take}
+use Rattle.base.specs.Refusals.{Refusal, refuse_when_}
+use Rattle.model.specs.State.{Package, Store}
+use Rattle.model.specs.Areas.{declared, blockPut, isTransferring}
+use Rattle.model.specs.Sound.{packagesMost, storeMost}
+use Rattle.state.specs.declared.package.Package.{Package as Struct}
+use Rattle.state.specs.declared.transfers.Transfers.{Transfers}
+use Rattle.state.specs.declared.state.State.{State}
+use Rattle.state.specs.declared.answer.Answer.the-variants.{Done}
+use Rattle.state.specs.View.{viewPackages}
+use Rattle.state.specs.Exact.{withBlock, withPackage, withTransfers}
+use Rattle.state.specs.Outcome.{Outcome, outcome, answered}
+use Rattle.areas.specs.Changed.{withChanged}
+use Rattle.store.specs.Positions.{written}
+
+-- its own refusals behind 4 of a package that is found: "5. WrongPackageState: Data or Exit off Transferring"; "6. IncorrectBlock: the
+-- counter isn't the expected one."; "7. IncorrectSize: .. data empty, or data past the declared size."
+unfoldable pub dataRefusals : Package → ℕ → ℕ → List Refusal
+dataRefusals p counter length =
+    (refuse 5 when not (isTransferring (p .state)))
+    ∷ (refuse 6 when not (eqb counter (p .blocks + 1)))
+    ∷ (refuse 7 when (ltb length 1 || ltb (p .size) (p .received + length)))
+    ∷ []
+
+-- what is known of a block that none of them refuses, of a length, for the package p at i in a store of a length
+pub record BlockFits (t : Transfers) (i : ℕ) (p : Struct) (storeLength size : ℕ) : Type 0 where
+  pub few : t .count ≤ packagesMost
+  pub below : i < t .count
+  pub area : declared (take i (viewPackages t)) + p .size ≤ storeLength
+  pub room : storeLength ≤ storeMost
+  pub some : 1 ≤ size
+  pub fits : p .received + size ≤ p .size
+  pub blocks : p .blocks ≤ p .received
+
+-- a block accepted for the package p at i: it stands behind the area's start and the bytes received so far
+unfoldable pub receivedAt : State → Store → ℕ → Struct → List ℕ → Outcome
+receivedAt s store i p block =
+    outcome
+    (answered Done (withTransfers (withPackage i (withBlock (length block) p) (s .transfers)) s))
+    (written (declared (take i (viewPackages (s .transfers))) + p .received) block store)
+
+-- "the counter .. rises by one per accepted block. The block is written directly behind the bytes received so far."
+abbrev pub received : State → Store → ℕ → List ℕ → Outcome
+received s store id block =
+    outcome
+    (answered Done (withTransfers (withChanged id (withBlock (length block)) (s .transfers)) s))
+    (blockPut id block (viewPackages (s .transfers)) store)

@@ -1,4 +1,5 @@
 pub mod Along
 pub mod FoundPackage
+pub mod PlacedPackage
 pub mod FirstPlaces
 pub mod Kept

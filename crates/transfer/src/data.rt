@@ -2,6 +2,7 @@
 use areas::lookup::find;
 use areas::sizes::area_start;
 use clusters::table::Found;
+use soundness::sound::sound;
 use state::answer::Answer;
 use state::answer::Answered;
 use state::answer::answer_with;
@@ -11,6 +12,7 @@ use state::package::is_transferring;
 use state::package::with_block;
 use state::permissions::TRANSFER_DATA;
 use state::permissions::allowed;
+use state::refusal::BAD_STATE;
 use state::refusal::INCORRECT_BLOCK;
 use state::refusal::INCORRECT_SIZE;
 use state::refusal::INVALID_TRANSFER_ID;
@@ -26,8 +28,9 @@ ghost use lib.ListN.{length};
 ghost use Rattle.base.specs.Refusals.{firstRefusal, numberOrZero};
 ghost use Rattle.model.specs.Calls.{transferData};
 ghost use Rattle.model.specs.Sound.{soundFor};
+ghost use Rattle.model.specs.Step.{step};
 ghost use Rattle.state.specs.View.{viewPackage, viewState};
-ghost use Rattle.state.specs.Outcome.{outcome, calledOnSound};
+ghost use Rattle.state.specs.Outcome.{outcome, viewOutcome, SoundIfAccepted, called, calledOnSound};
 ghost use Rattle.transfer.specs.Data.{dataRefusals, BlockFits, receivedAt, received};
 
 // The number of the first of TransferData's own refusals behind 4 that applies, or 0. A sound state meets what is required.
@@ -87,4 +90,16 @@ pub fn transfer_data_on_sound(
         return refused(s, number);
     }
     accept_block(s, store, i, p, block)
+}
+
+// TransferData(id, block counter, data): the counter begins at 1 and rises by one per accepted block.
+pub fn transfer_data(s: State, store: &mut [u8], id: u32, counter: u32, block: &[u8]) -> Answered
+    ensures meaning { λ r. ⌜ viewOutcome (outcome r (now (store .exit))) ≡ step (viewState s) (now (store .entry)) (transferData id counter (now (block .entry))) ⌝ }
+    ensures exact { λ r. ⌜ outcome r (now (store .exit)) ≡ called s (now (store .entry)) (transferData id counter (now (block .entry))) (received s (now (store .entry)) id (now (block .entry))) ⌝ }
+    ensures sound { λ r. ⌜ SoundIfAccepted (outcome r (now (store .exit))) ⌝ }
+{
+    if !sound(s, store.len()) {
+        return refused(s, BAD_STATE);
+    }
+    transfer_data_on_sound(s, store, id, counter, block)
 }

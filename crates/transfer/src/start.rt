@@ -1,5 +1,6 @@
 // TransferStart: a package of a size is begun behind the others.
 use areas::sizes::free_bytes;
+use soundness::sound::sound;
 use state::answer::Answer;
 use state::answer::Answered;
 use state::answer::answer_with;
@@ -8,6 +9,7 @@ use state::limits::ID_MOST;
 use state::limits::PACKAGES_MOST;
 use state::permissions::TRANSFER_START;
 use state::permissions::allowed;
+use state::refusal::BAD_STATE;
 use state::refusal::IDS_SPENT;
 use state::refusal::INCORRECT_SIZE;
 use state::refusal::INSUFFICIENT_MEMORY;
@@ -22,8 +24,9 @@ ghost use lib.ListN.{length};
 ghost use Rattle.base.specs.Refusals.{firstRefusal, numberOrZero};
 ghost use Rattle.model.specs.Calls.{transferStart};
 ghost use Rattle.model.specs.Sound.{soundFor};
+ghost use Rattle.model.specs.Step.{step};
 ghost use Rattle.state.specs.View.{viewState};
-ghost use Rattle.state.specs.Outcome.{outcome, calledOnSound};
+ghost use Rattle.state.specs.Outcome.{outcome, viewOutcome, SoundIfAccepted, called, calledOnSound};
 ghost use Rattle.transfer.specs.Start.{startRefusals, started};
 
 // The number of the first of TransferStart's own refusals that applies, or 0.
@@ -64,4 +67,16 @@ pub fn transfer_start_on_sound(s: State, store: &[u8], size: u32) -> Answered
         Answer::Id(next as u32),
         with_transfers(s, with_new_package(t, size)),
     )
+}
+
+// TransferStart(size): gives the next id, one above the last given.
+pub fn transfer_start(s: State, store: &[u8], size: u32) -> Answered
+    ensures meaning { λ r. ⌜ viewOutcome (outcome r (now (store .entry))) ≡ step (viewState s) (now (store .entry)) (transferStart size) ⌝ }
+    ensures exact { λ r. ⌜ outcome r (now (store .entry)) ≡ called s (now (store .entry)) (transferStart size) (started s (now (store .entry)) size) ⌝ }
+    ensures sound { λ r. ⌜ SoundIfAccepted (outcome r (now (store .entry))) ⌝ }
+{
+    if !sound(s, store.len()) {
+        return refused(s, BAD_STATE);
+    }
+    transfer_start_on_sound(s, store, size)
 }

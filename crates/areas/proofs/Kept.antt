@@ -9,11 +9,13 @@ use native.Mathlib.Omega.{arith}
 use lib.ListN.{length, take, getD, set, length-take, length-append}
 use lib.Seq.{take-suc}
 use Rattle.base.proofs.Tests.{bool-cases}
+use Rattle.model.specs.State as model
 use Rattle.model.specs.Areas.{remaining}
 use Rattle.model.specs.Sound.{packagesMost}
+use Rattle.model.specs.Step.{withPackages}
 use Rattle.state.specs.declared.package.Package.{Package}
 use Rattle.state.specs.declared.transfers.Transfers.{Transfers}
-use Rattle.state.specs.View.{viewPackage, viewPackages}
+use Rattle.state.specs.View.{viewPackage, viewPackages, viewTransfers}
 use Rattle.state.proofs.Views.{packages-few}
 use Rattle.areas.specs.declared.deletion.Deletion.{Deletion}
 use Rattle.areas.specs.FirstPlaces.{putFirst}
@@ -98,11 +100,10 @@ module _ (deletion : Deletion) where
       let ih = view-kept ps in
       bool-cases (keeps deletion (viewPackage p)) (λ k. rw k (ap (λ l. viewPackage p ∷ l) ih)) λ k. rw k ih
 
-  -- the transfers that remain are the model's
-  pub view-remaining : (t : Transfers) → t .count ≤ packagesMost
+  pub view-remaining-packages : (t : Transfers) → t .count ≤ packagesMost
       → viewPackages (remainingTransfers deletion t) ≡ remaining (keeps deletion) (viewPackages t)
   unfolding remainingTransfers
-  view-remaining t few =
+  view-remaining-packages t few =
       let counting = take (t .count) (t .packages) in
       let remain = kept deletion counting in
       let short : length remain ≤ packagesMost = omega (arith, length-kept deletion counting, length-take (t .count) (t .packages)) in
@@ -110,3 +111,9 @@ module _ (deletion : Deletion) where
       ∙ ap (map viewPackage) (take-first remain (t .packages) (length remain) refl)
       ∙ view-kept counting
       ∙ ap (remaining (keeps deletion)) (sym (packages-few t few))
+
+  -- the transfers that remain are the model's
+  pub view-remaining : (t : Transfers) → t .count ≤ packagesMost
+      → viewTransfers (remainingTransfers deletion t) ≡ withPackages (remaining (keeps deletion) (viewPackages t)) (viewTransfers t)
+  unfolding remainingTransfers
+  view-remaining t few = ap (λ (ps : List model.Package). withPackages ps (viewTransfers t)) (view-remaining-packages t few)

@@ -2,3 +2,4 @@ pub mod Along
 pub mod FirstPlaces
 pub mod Kept
 pub mod FoundPackage
+pub mod PlacedPackage

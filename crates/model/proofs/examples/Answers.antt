@@ -14,6 +14,7 @@ use Rattle.actions.specs.Action.{Action, install, update, remove}
 use Rattle.model.specs.State.{PackageState, transferring, transferred, beingProcessed, Package, verifyingRollsBack, activatedRollsBack, readyCleansUp, activatedCleansUp, rolledBackCleansUp, Phase, idle, ready, processing, activating, verifying, activated, rollingBack, rolledBack, cleaningUp, Entry, Work, Store, state}
 use Rattle.model.specs.State as states
 use Rattle.model.specs.Calls.{transferStart, transferData, transferExit, deleteTransfer, process, work, cancel, revert, activate, rollback, finish, report, givenId, done, working, processed, cancelled, inconsistent, preActivationFailed, missingDependencies, verificationFailed, notAbleToRollback, notAbleToRevert, cleaningFailed}
+use Rattle.model.specs.Areas.{areaStart, areaOf}
 use Rattle.model.specs.Tables.{runningIn}
 use Rattle.model.specs.Run.{Run}
 use Rattle.model.proofs.examples.Open.{computing}
@@ -258,3 +259,17 @@ runningTables =
 pub running : runningTables ≡ replicate 7 (cluster20 ∷ []) ++ replicate 5 stagedTable
 unfolding computing
 running = refl
+
+-- ---- the areas
+
+-- "Their areas, each of the declared size, lie back to back in id order from byte 0."
+abbrev ofEach : {A : Type 0} → (ℕ → List Package → A) → List A
+ofEach look = map (λ id. look id (package1 ∷ package2 ∷ package3 ∷ package4 ∷ [])) (1 ∷ 2 ∷ 3 ∷ 4 ∷ 5 ∷ [])
+
+pub areaStarts : ofEach areaStart ≡ 0 ∷ 2 ∷ 6 ∷ 7 ∷ 10 ∷ []
+unfolding computing areaStart
+areaStarts = refl
+
+pub areas : ofEach (λ id packages. areaOf id packages bytesOfFour) ≡ bytes "ab" ∷ (bytes "c" ++ replicate 3 0) ∷ bytes "d" ∷ bytes "efg" ∷ [] ∷ []
+unfolding computing
+areas = refl

@@ -179,6 +179,10 @@ processingOther =
     (some (kept (install cluster30) 73 2 0 0 0 0 false)))
     (updateText ++ otherText)
 
+-- a payload that is longer than the text before it
+abbrev hundredText : List ℕ
+hundredText = packageText "install,30,1.0.0.0,100,0,," "" ++ replicate 100 7
+
 -- refused by a number, and empty
 abbrev refusedPart : ℕ → Given
 refusedPart n = part (refusedBy n) n []
@@ -197,6 +201,7 @@ ofPayload =
     ∷ payloadOf 7 is refusedPart 4
     ∷ payloadOf 0 is refusedPart 4
     ∷ [])
+    ∷ from idleHolding transferred (hundredText ∷ updateText ∷ []) reads (payloadOf 1 is part (given 100) 0 (replicate 100 7) ∷ [])
     -- "Payload on Transferring": 5; 5 and 9; 5 and 10
     ∷ from idleHolding transferring (updateText ∷ illFormedText ∷ longText ∷ [])
     reads

@@ -1,2 +1,3 @@
 pub mod Start
 pub mod Data
+pub mod Delete

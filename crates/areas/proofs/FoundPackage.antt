@@ -18,7 +18,7 @@ use Rattle.clusters.proofs.Arrays.{set-put}
 use Rattle.model.specs.State as model
 use Rattle.model.specs.State.{Store}
 use Rattle.model.specs.Areas.{declared, find, packageOf, areaStart, changed, isTransferring}
-use Rattle.model.specs.Sound.{storeMost, packagesMost, receivedSound, sound}
+use Rattle.model.specs.Sound.{packagesMost, receivedSound, sound}
 use Rattle.model.specs.Step.{unknown, withPackages}
 use Rattle.model.proofs.soundness.SoundFacts.{Sound, sound-says}
 use Rattle.model.proofs.soundness.Packages.{Fine, found-fine, found-known, found-is}
@@ -28,10 +28,14 @@ use Rattle.model.proofs.store.PackageAtIndex.{FirstAt, here, there, first-below
 use Rattle.state.specs.declared.package.Package.{Package}
 use Rattle.state.specs.declared.transfers.Transfers.{Transfers}
 use Rattle.state.specs.declared.state.State.{State}
+use Rattle.state.specs.declared.answer.Answer.{Answer}
+use Rattle.state.specs.declared.answer.Answered.{Answered}
 use Rattle.state.specs.View.{viewPackage, clearedPackage, viewPackages, viewTransfers, viewState}
-use Rattle.state.specs.Exact.{withPackage}
+use Rattle.state.specs.Exact.{withPackage, withTransfers}
+use Rattle.state.specs.Outcome.{outcome, answered}
 use Rattle.state.proofs.Views.{packages-fit, view-with-package}
 use Rattle.areas.specs.Place.{placeFrom, placeOf}
+use Rattle.areas.specs.Inside.{AreaInside}
 use Rattle.areas.specs.Changed.{packageAt, changedAt, withChanged}
 use Rattle.areas.proofs.Along.{packages-length, package-at}
 
@@ -85,13 +89,10 @@ received-within p h = bool-cases (isTransferring (p .state)) (λ b. part p b h) 
 
 -- what a call may go by that found its package at the place i
 pub record FoundAt (s : State) (store : Store) (id i : ℕ) : Type 0 where
-  pub few : s .transfers .count ≤ packagesMost
-  pub below : i < s .transfers .count
+  pub inside : AreaInside (s .transfers) i (packageAt (s .transfers) i) (length store)
   pub place : placeOf id (viewPackages (s .transfers)) ≡ At i
   pub known : find id (viewPackages (s .transfers)) ≡ some (viewPackage (packageAt (s .transfers) i))
   pub start : areaStart id (viewPackages (s .transfers)) ≡ declared (take i (viewPackages (s .transfers)))
-  pub area : declared (take i (viewPackages (s .transfers))) + packageAt (s .transfers) i .size ≤ length store
-  pub room : length store ≤ storeMost
   pub received : packageAt (s .transfers) i .received ≤ packageAt (s .transfers) i .size
   pub blocks : packageAt (s .transfers) i .blocks ≤ packageAt (s .transfers) i .received
 
@@ -109,13 +110,16 @@ found-at s store id i r ok long e f =
     let known : find id ps ≡ some p = first-found first (viewPackage clearedPackage) ∙ ap some (package-at t few long i below) in
     let fine = found-fine 0 (t .next) id ps p (facts .rise) known in
     record {
-      few = few;
-      below = below;
+      inside =
+          record {
+            few = few;
+            below = below;
+            area = omega (arith, area-inside id ps p known, first-start first, facts .fit);
+            room = facts .room;
+          };
       place = sym e ∙ f;
       known = known;
       start = first-start first;
-      area = omega (arith, area-inside id ps p known, first-start first, facts .fit);
-      room = facts .room;
       received = received-within p (fine .received);
       blocks = fine .blocks;
     }
@@ -146,8 +150,9 @@ module _ (t : Transfers) (few : t .count ≤ packagesMost) (long : length (t .pa
           ∙ ap (λ (p : model.Package). putAt i p ps) (same (packageAt t i) ∙ ap change′ (sym (package-at t few long i below)))
           ∙ sym (first-changed first change′ (viewPackage clearedPackage) ∙ set-put ps i _ (first-below first)))
 
--- t′ has the changed package at its place
-pub changed-at : (s : State) (store : Store) (id i : ℕ) (change : Package → Package) (t′ : Transfers) → FoundAt s store id i
-    → t′ ≡ withPackage i (change (packageAt (s .transfers) i)) (s .transfers) → t′ ≡ withChanged id change (s .transfers)
+-- a call that changes the package at its place changes the package of the id; stored is the store then
+pub given-at : (s : State) (store : Store) (id i : ℕ) (change : Package → Package) (answer : Answer) (r : Answered) (stored store′ : Store)
+    → FoundAt s store id i → r ≡ answered answer (withTransfers (withPackage i (change (packageAt (s .transfers) i)) (s .transfers)) s)
+    → store′ ≡ stored → outcome r store′ ≡ outcome (answered answer (withTransfers (withChanged id change (s .transfers)) s)) stored
 unfolding withChanged
-changed-at s store id i change t′ found e = e ∙ ap (changedAt change (s .transfers)) (sym (found .place))
+given-at s store id i change answer r stored store′ found e same = rw (e, same, found .place)

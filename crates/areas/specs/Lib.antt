@@ -1,4 +1,5 @@
 pub mod Place
 pub mod Changed
+pub mod Inside
 pub mod FirstPlaces
 pub mod Deletion

@@ -27,11 +27,22 @@ use Rattle.state.proofs.Numbers.{told-number, told-none}
 use Rattle.state.proofs.Permitted.{by-number}
 use Rattle.state.proofs.Outcomes.{view-called, called-unsound, called-sound, step-gives-sound}
 
--- ---- behind 1
+-- ---- what an accepted call gives, by its parts
 
 -- with a package in the place of another
 pub give-package : (i : ℕ) (p p′ : Package) (t t′ : Transfers) → p′ ≡ p → t′ ≡ withPackage i p′ t → t′ ≡ withPackage i p t
 give-package i p p′ t t′ e f = f ∙ ap (λ (q : Package). withPackage i q t) e
+
+-- with other transfers
+pub give-transfers : (answer : Answer) (t t′ : Transfers) (s s′ : State) (r : Answered) → t′ ≡ t → s′ ≡ withTransfers t′ s
+    → r ≡ answered answer s′ → r ≡ answered answer (withTransfers t s)
+give-transfers answer t t′ s s′ r e f g = rw (g, f, e)
+
+-- and the store then
+pub give-store : (r r′ : Answered) (store store′ : Store) → r′ ≡ r → store′ ≡ store → outcome r′ store′ ≡ outcome r store
+give-store r r′ store store′ e f = rw (e, f)
+
+-- ---- behind 1
 
 module _ (s : State) (store : Store) where
   -- by the number that a check of the parts answers
@@ -55,12 +66,6 @@ module _ (s : State) (store : Store) where
   pub accept : (refusal : Option ℕ) (o given : Outcome) → refusal ≡ none → given ≡ o → given ≡ settled s store refusal o
   unfolding settled
   accept refusal o given e same = rw e same
-
-  -- with other transfers; stored is the store then
-  pub give-transfers : (answer : Answer) (t t′ : Transfers) (s′ : State) (r : Answered) (stored store′ : Store) → t′ ≡ t
-      → s′ ≡ withTransfers t′ s → r ≡ answered answer s′ → store′ ≡ stored
-      → outcome r store′ ≡ outcome (answered answer (withTransfers t s)) stored
-  give-transfers answer t t′ s′ r stored store′ e f g h = rw (g, f, e, h)
 
   module _ (call : Call) (o : Outcome) where
     abbrev busy : Bool
@@ -109,4 +114,4 @@ module _ (s : State) (store : Store) (call : Call) (o : Outcome) where
       let means = ap viewOutcome exact ∙ view-called s store call o same in
       (means, (exact, step-gives-sound s store call given means))
 
-pub ruleset ways = (refuse-unsound, pass-sound, refuse-busy, refuse-unpermitted, pass-permitted, refuse-number, refuse-first, pass-first, accept, told-number, told-none, give-package, give-transfers)
+pub ruleset ways = (refuse-unsound, pass-sound, refuse-busy, refuse-unpermitted, pass-permitted, refuse-number, refuse-first, pass-first, accept, told-number, told-none, give-package, give-transfers, give-store)

@@ -27,9 +27,8 @@ use Rattle.state.specs.Exact.{withBlock}
 use Rattle.state.specs.Outcome.{Outcome, viewOutcome}
 use Rattle.state.proofs.Outcomes.{view-packages}
 use Rattle.state.proofs.Numbers.{zero-none}
-use Rattle.state.proofs.Ways.{give-transfers}
 use Rattle.areas.specs.Changed.{packageAt, withChanged}
-use Rattle.areas.proofs.FoundPackage.{count-fits, FoundAt, view-changed, changed-at}
+use Rattle.areas.proofs.FoundPackage.{count-fits, FoundAt, view-changed, given-at}
 use Rattle.store.specs.Positions.{written}
 use Rattle.store.proofs.PositionLaws.{written-inside}
 use Rattle.transfer.specs.Data.{dataRefusals, BlockFits, receivedAt}
@@ -53,10 +52,7 @@ block-fits s store id i counter size n found told zero =
     let past = ltb (p .size) (p .received + size) in
     let passed : ltb size 1 || past ≡ false = first-passed _ _ (rest-passed _ _ (rest-passed _ _ (zero-none _ refl (sym zero ∙ told)))) in
     record {
-      few = found .few;
-      below = found .below;
-      area = found .area;
-      room = found .room;
+      inside = found .inside;
       some = ltb-false size 1 (or-left-false (ltb size 1) past passed);
       fits = ltb-false (p .size) (p .received + size) (or-right-false (ltb size 1) past passed);
       blocks = found .blocks;
@@ -88,7 +84,7 @@ module _ (s : State) (store : Store) (id : ℕ) (block : List ℕ) where
       written-inside (start + p .received) block store (omega arith)
       ∙ ap (λ (n : ℕ). overwritten (n + p .received) block store) (sym (found .start))
       ∙ sym (block-at-start id block (viewPackages (s .transfers)) (viewPackage p) store (found .known)) in
-      e ∙ give-transfers s store Done _ _ _ _ _ _ (changed-at s store id i (withBlock (length block)) _ found refl) refl refl put
+      e ∙ given-at s store id i (withBlock (length block)) Done _ _ _ found refl put
 
   -- what is given is the model's
   pub view-received : (counter : ℕ) → length (s .transfers .packages) ≡ packagesMost

@@ -1,5 +1,5 @@
 -- TransferData on the code's structs.
-use Prim.Native.Nat.{ℕ, _+_, _≤_, _<_}
+use Prim.Native.Nat.{ℕ, _+_, _≤_}
 use mathlib.Core.Bool.{not, _||_}
 use mathlib.Core.List.{List, [], _∷_}
 use lib.Dec.{eqb, ltb}
@@ -7,7 +7,6 @@ use lib.ListN.{length, take}
 use Rattle.base.specs.Refusals.{Refusal, refuse_when_}
 use Rattle.model.specs.State.{Package, Store}
 use Rattle.model.specs.Areas.{declared, blockPut, isTransferring}
-use Rattle.model.specs.Sound.{packagesMost, storeMost}
 use Rattle.state.specs.declared.package.Package.{Package as Struct}
 use Rattle.state.specs.declared.transfers.Transfers.{Transfers}
 use Rattle.state.specs.declared.state.State.{State}
@@ -15,6 +14,7 @@ use Rattle.state.specs.declared.answer.Answer.the-variants.{Done}
 use Rattle.state.specs.View.{viewPackages}
 use Rattle.state.specs.Exact.{withBlock, withPackage, withTransfers}
 use Rattle.state.specs.Outcome.{Outcome, outcome, answered}
+use Rattle.areas.specs.Inside.{AreaInside}
 use Rattle.areas.specs.Changed.{withChanged}
 use Rattle.store.specs.Positions.{written}
 
@@ -29,10 +29,7 @@ dataRefusals p counter length =
 
 -- what is known of a block that none of them refuses, of a length, for the package p at i in a store of a length
 pub record BlockFits (t : Transfers) (i : ℕ) (p : Struct) (storeLength size : ℕ) : Type 0 where
-  pub few : t .count ≤ packagesMost
-  pub below : i < t .count
-  pub area : declared (take i (viewPackages t)) + p .size ≤ storeLength
-  pub room : storeLength ≤ storeMost
+  pub inside : AreaInside t i p storeLength
   pub some : 1 ≤ size
   pub fits : p .received + size ≤ p .size
   pub blocks : p .blocks ≤ p .received

@@ -1,0 +1,27 @@
+-- TransferExit on the code's structs.
+use Prim.Native.Nat.{ℕ}
+use mathlib.Core.Bool.{not}
+use mathlib.Core.List.{List, _∷_}
+use lib.Dec.{ltb}
+use Rattle.base.specs.Refusals.{Refusal, refuse_when_}
+use Rattle.manifest.specs.Package.{PackageRead}
+use Rattle.manifest.specs.Refused.{packageRefusals}
+use Rattle.model.specs.State.{Package, Store}
+use Rattle.model.specs.Areas.{isTransferring}
+use Rattle.state.specs.declared.package.PackageState.the-variants.{Transferred}
+use Rattle.state.specs.declared.state.State.{State}
+use Rattle.state.specs.declared.answer.Answer.the-variants.{Done}
+use Rattle.state.specs.Exact.{inState, withTransfers}
+use Rattle.state.specs.Outcome.{Outcome, outcome, answered}
+use Rattle.areas.specs.Changed.{withChanged}
+
+-- its own refusals behind 4 of a package that is found and what its area reads as: "5. WrongPackageState: Data or Exit off Transferring";
+-- "8. InsufficientData: Exit before all bytes came."; "9. InvalidManifest: Exit, Process or Payload"; "10. PackageInconsistent: the same
+-- calls"
+unfoldable pub exitRefusals : Package → PackageRead → List Refusal
+exitRefusals p read =
+    (refuse 5 when not (isTransferring (p .state))) ∷ (refuse 8 when ltb (p .received) (p .size)) ∷ packageRefusals read
+
+-- "TransferExit(id) checks the package: Transferred."
+abbrev pub exited : State → Store → ℕ → Outcome
+exited s store id = outcome (answered Done (withTransfers (withChanged id (inState Transferred) (s .transfers)) s)) store

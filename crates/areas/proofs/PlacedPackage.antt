@@ -1,7 +1,9 @@
--- The package at the place that a search found, by the packages alone: its area lies in the store, and the bytes there are the model's.
+-- What a function that is handed the packages alone may go by: that they and their areas fit, and, of the package at the place that a
+-- search found, that its area lies in the store and that the bytes there are the model's.
 -- Assumes nothing.
 use Prim.Native.Nat.{ℕ, _+_, _-_, _≤_, _<_}
 use mathlib.Core.Path.{_≡_, sym, ap, _∙_}
+use mathlib.Core.Bool.{true}
 use mathlib.Core.Option.{some}
 use native.Mathlib.Omega.{arith}
 use lib.ListN.{length, take, drop}
@@ -9,17 +11,24 @@ use Rattle.clusters.specs.declared.table.Found.{Found}
 use Rattle.clusters.specs.declared.table.Found.the-variants.{At}
 use Rattle.model.specs.State.{Store}
 use Rattle.model.specs.Areas.{declared, find, areaStart, areaOf}
-use Rattle.model.specs.Sound.{packagesMost}
+use Rattle.model.specs.Sound.{packagesMost, sound}
+use Rattle.model.proofs.soundness.SoundFacts.{sound-says}
 use Rattle.model.proofs.store.AreaStart.{area-inside, area-at-start}
 use Rattle.model.proofs.store.PackageAtIndex.{first-below, first-found, first-start}
 use Rattle.state.specs.declared.transfers.Transfers.{Transfers}
-use Rattle.state.specs.View.{viewPackage, clearedPackage, viewPackages}
+use Rattle.state.specs.declared.state.State.{State}
+use Rattle.state.specs.View.{viewPackage, clearedPackage, viewPackages, viewState}
 use Rattle.areas.specs.Place.{placeOf}
 use Rattle.areas.specs.Changed.{packageAt}
 use Rattle.areas.proofs.Along.{packages-length, package-at}
-use Rattle.areas.proofs.FoundPackage.{place-first}
+use Rattle.areas.proofs.FoundPackage.{count-fits, place-first}
 
--- its place, its area in the store and the bytes there
+-- of a sound state the packages fit their array and their areas the store
+pub areas-fit : (s : State) (store : Store) → sound (viewState s) store ≡ true
+    → (s .transfers .count ≤ packagesMost) × (declared (viewPackages (s .transfers)) ≤ length store)
+areas-fit s store ok = (count-fits s store ok, sound-says (viewState s) store ok .fit)
+
+-- the place of a package and its area in the store
 pub record PlacedAt (t : Transfers) (store : Store) (id i : ℕ) : Type 0 where
   pub below : i < t .count
   pub known : find id (viewPackages t) ≡ some (viewPackage (packageAt t i))

@@ -4,9 +4,10 @@ use mathlib.Core.Path.{_≡_, refl, sym, ap, _∙_}
 use mathlib.Core.Bool.{Bool, true, false, cond}
 use mathlib.Core.List.{List}
 use mathlib.Core.Option.{Option, none, some}
+use native.Mathlib.Omega.{arith}
 use lib.ListN.{length, replicate}
 use Rattle.base.specs.Refusals.{firstRefusal}
-use Rattle.base.proofs.Tests.{none-some}
+use Rattle.base.proofs.Tests.{bool-cases, none-some}
 use Rattle.clusters.specs.Table.{Table}
 use Rattle.clusters.specs.Struct.{structTable}
 use Rattle.clusters.proofs.Structs.{view-struct}
@@ -18,13 +19,12 @@ use Rattle.model.specs.Load.{tableOrEmpty, isBadLoad}
 use Rattle.model.specs.Calls as calls
 use Rattle.model.specs.Step as step
 use Rattle.model.specs.Sound.{sound}
-use Rattle.model.proofs.soundness.LoadSound.{loads-says, load-accepted, load-sound}
+use Rattle.model.proofs.soundness.LoadSound.{loads-says, load-refused, load-sound}
 use Rattle.state.specs.declared.state.State.{State}
-use Rattle.state.specs.declared.answer.Answer.the-variants.{Done}
 use Rattle.state.specs.declared.answer.Answered.{Answered}
 use Rattle.state.specs.View.{viewState}
 use Rattle.state.specs.Exact.{loadedState}
-use Rattle.state.specs.Outcome.{outcome, replyOf, viewOutcome}
+use Rattle.state.specs.Outcome.{outcome, viewOutcome, SoundIfAccepted}
 use Rattle.state.proofs.Views.{view-loaded-state}
 use Rattle.state.proofs.Outcomes.{view-settled}
 use Rattle.load.specs.Exact.{load}
@@ -54,11 +54,17 @@ module _ (s : State) (list : List ℕ) (first : ℕ) (store : Store) where
     meaning : viewOutcome (outcome r after) ≡ model.load (viewState s) list first store
     meaning = ap viewOutcome exact ∙ view-load
 
-    accepted-sound : r .answer ≡ Done → sound (viewState (r .state)) after ≡ true
-    accepted-sound done =
-        let reply : model.load (viewState s) list first store .reply ≡ calls.accepted calls.done = ap (λ (o : step.Outcome). o .reply) (sym meaning) ∙ ap replyOf done in
-        ap (λ (o : step.Outcome). sound (o .state) (o .store)) meaning ∙ load-sound (viewState s) list first store (load-accepted (viewState s) list first store reply)
+    accepted-sound : SoundIfAccepted (outcome r after)
+    unfolding SoundIfAccepted
+    accepted-sound answer e =
+        let loaded = model.load (viewState s) list first store in
+        let reply : loaded .reply ≡ calls.accepted answer = ap (λ (o : step.Outcome). o .reply) (sym meaning) ∙ e in
+        ap (λ (o : step.Outcome). sound (o .state) (o .store)) meaning
+        ∙ bool-cases (isBadLoad list first store)
+        (λ bad. let refused = load-refused (viewState s) list first store 20 .1 (refl, bad) in
+        absurd (let z : _≡_ {A = ℕ} 0 1 = cc in omega arith))
+        (load-sound (viewState s) list first store)
 
     pub promised : (viewOutcome (outcome r after) ≡ model.load (viewState s) list first store)
-        × ((outcome r after ≡ load s list first store) × (r .answer ≡ Done → sound (viewState (r .state)) after ≡ true))
+        × ((outcome r after ≡ load s list first store) × SoundIfAccepted (outcome r after))
     promised = (meaning, (exact, accepted-sound))

@@ -11,18 +11,16 @@ use state::refusal::BAD_LOAD;
 use state::state::State;
 use state::state::loaded_state;
 ghost use mathlib.Core.Path.{_≡_};
-ghost use mathlib.Core.Bool.{true};
 ghost use Rattle.model.specs.Load as model;
-ghost use Rattle.model.specs.Sound.{sound};
 ghost use Rattle.state.specs.View.{viewState};
-ghost use Rattle.state.specs.Outcome.{outcome, viewOutcome};
+ghost use Rattle.state.specs.Outcome.{outcome, viewOutcome, SoundIfAccepted};
 ghost use Rattle.load.specs.Exact.{load};
 
 // The refusals that are cheap to see come first: they all have one number.
 pub fn load(s: State, list: &[u8], first: u32, store: &mut [u8]) -> Answered
     ensures meaning { λ r. ⌜ viewOutcome (outcome r (now (store .exit))) ≡ model.load (viewState s) (now (list .entry)) first (now (store .entry)) ⌝ }
     ensures exact { λ r. ⌜ outcome r (now (store .exit)) ≡ load s (now (list .entry)) first (now (store .entry)) ⌝ }
-    ensures sound { λ r. ⌜ (r .answer ≡ Answer.Done → sound (viewState (r .state)) (now (store .exit)) ≡ true) ⌝ }
+    ensures sound { λ r. ⌜ SoundIfAccepted (outcome r (now (store .exit))) ⌝ }
 {
     if store.len() > STORE_MOST {
         return refused(s, BAD_LOAD);

@@ -1,3 +1,4 @@
 pub mod StartLaws
 pub mod DataLaws
 pub mod ExitLaws
+pub mod DeleteLaws

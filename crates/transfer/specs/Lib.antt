@@ -1,3 +1,4 @@
 pub mod Start
 pub mod Data
 pub mod Exit
+pub mod Delete

@@ -1,8 +1,7 @@
 -- `payload::payload_check_on_sound` meets its contract: the number beside the place. Assumes nothing.
 use mathlib.Core.Path.{refl, ap, _∙_}
-use Rattle.model.proofs.soundness.SoundFacts.{sound-says}
 use Rattle.state.specs.View.{viewState}
-use Rattle.areas.proofs.FoundPackage.{count-fits}
+use Rattle.areas.proofs.PlacedPackage.{areas-fit}
 use Rattle.payload.specs.declared.place.PayloadPlace.{PayloadPlace}
 use Rattle.payload.proofs.PayloadLaws.{check-on-sound}
 use Rattle.payload.proofs.payload_check_on_sound.Statement.{statement}
@@ -11,8 +10,7 @@ use Rattle.payload.proofs.payload_check_on_sound.Tie as tie
 payload-place-requires : tie.Need-payload-place-requires
 payload-place-requires c κs =
     let s = c .before .before in
-    let a = s .args in
-    (count-fits (a .s) (a .store .now) (s .pre), sound-says (viewState (a .s)) (a .store .now) (s .pre) .fit)
+    areas-fit (s .args .s) (s .args .store .now) (s .pre)
 
 returns : tie.Need-returns
 returns c =

@@ -2,9 +2,8 @@
 use mathlib.Core.Path.{_≡_, refl}
 use Prim.Native.Nat.{_+_, _≤_}
 use lib.ListN.{length}
-use Rattle.model.proofs.soundness.SoundFacts.{sound-says}
 use Rattle.state.specs.View.{viewState}
-use Rattle.areas.proofs.FoundPackage.{count-fits}
+use Rattle.areas.proofs.PlacedPackage.{areas-fit}
 use Rattle.payload.specs.Place.{placeOnSound}
 use Rattle.payload.proofs.PayloadLaws.{sound-place, place-lies}
 use Rattle.payload.proofs.Parts.{part-at}
@@ -27,8 +26,7 @@ lies c =
 payload-place-requires : tie.Need-payload-place-requires
 payload-place-requires c κs =
     let s = c .before .before in
-    let a = s .args in
-    (count-fits (a .s) (a .store .now) (s .pre), sound-says (viewState (a .s)) (a .store .now) (s .pre) .fit)
+    areas-fit (s .args .s) (s .args .store .now) (s .pre)
 
 add-end : tie.Need-add-end
 add-end c = let h = lies (c .before) in search needs

@@ -1,0 +1,26 @@
+-- DeleteTransfer on the code's structs.
+use Prim.Native.Nat.{ℕ}
+use mathlib.Core.Bool.{_||_}
+use mathlib.Core.List.{List, [], _∷_}
+use Rattle.base.specs.Refusals.{Refusal, refuse_when_}
+use Rattle.model.specs.State.{PackageState, Store}
+use Rattle.model.specs.Areas.{isBeingProcessed, isProcessed, deleted}
+use Rattle.state.specs.declared.state.State.{State}
+use Rattle.state.specs.declared.answer.Answer.the-variants.{Done}
+use Rattle.state.specs.View.{viewPackages}
+use Rattle.state.specs.Exact.{withTransfers}
+use Rattle.state.specs.Outcome.{Outcome, outcome, answered}
+use Rattle.areas.specs.declared.deletion.Deletion.the-variants.{WithId}
+use Rattle.areas.specs.Deletion.{keeps, remainingTransfers}
+
+-- its own refusal behind 4, by the state of its package: "5. WrongPackageState: .. Delete on Processing or Processed"
+unfoldable pub deleteRefusals : PackageState → List Refusal
+deleteRefusals state = (refuse 5 when (isBeingProcessed state || isProcessed state)) ∷ []
+
+-- "DeleteTransfer(id)."; "Deleting moves later areas down whole and fills the bytes between the new and the old end of the last area
+-- with 0"
+abbrev pub withoutTransfer : State → Store → ℕ → Outcome
+withoutTransfer s store id =
+    outcome
+    (answered Done (withTransfers (remainingTransfers (WithId id) (s .transfers)) s))
+    (deleted (keeps (WithId id)) (viewPackages (s .transfers)) store)

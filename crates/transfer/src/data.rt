@@ -45,10 +45,8 @@ fn data_refusal(p: Package, counter: u32, length: usize) -> u32
     if counter as u64 != p.blocks as u64 + 1 {
         return INCORRECT_BLOCK;
     }
-    if length < 1 {
-        return INCORRECT_SIZE;
-    }
-    if length > (p.size - p.received) as usize {
+    let left = p.size - p.received;
+    if (length < 1) | (length > left as usize) {
         return INCORRECT_SIZE;
     }
     0

@@ -31,8 +31,7 @@ use Rattle.areas.specs.Changed.{packageAt, withChanged}
 use Rattle.areas.proofs.FoundPackage.{count-fits, FoundAt, view-changed, given-at}
 use Rattle.store.specs.Positions.{written}
 use Rattle.store.proofs.PositionLaws.{written-inside}
-use Rattle.transfer.specs.Data.{dataRefusals, BlockFits, receivedAt}
-use Rattle.transfer.specs.Data as specs
+use Rattle.transfer.specs.Data.{dataRefusals, BlockFits, blockReceivedAt, blockReceived}
 
 -- "data empty, or data past the declared size": by what is left of the size
 pub incorrect-size : (size received n : ℕ) (b : Bool) → received ≤ size → ltb n 1 || ltb (size - received) n ≡ b
@@ -76,8 +75,8 @@ module _ (s : State) (store : Store) (id : ℕ) (block : List ℕ) where
   -- a block accepted at the place of its package is accepted by the id
   pub data-given : (i : ℕ) (given : Outcome) → FoundAt s store id i
       → BlockFits (s .transfers) i (packageAt (s .transfers) i) (length store) (length block)
-      → given ≡ receivedAt s store i (packageAt (s .transfers) i) block → given ≡ specs.received s store id block
-  unfolding receivedAt
+      → given ≡ blockReceivedAt s store i (packageAt (s .transfers) i) block → given ≡ blockReceived s store id block
+  unfolding blockReceivedAt
   data-given i given found fits e =
       let p = packageAt (s .transfers) i in
       let start = declared (take i (viewPackages (s .transfers))) in
@@ -90,7 +89,7 @@ module _ (s : State) (store : Store) (id : ℕ) (block : List ℕ) where
   -- what is given is the model's
   pub view-received : (counter : ℕ) → length (s .transfers .packages) ≡ packagesMost
       → firstRefusal (refusals (viewState s) store (transferData id counter block)) ≡ none
-      → viewOutcome (specs.received s store id block) ≡ act (viewState s) store (transferData id counter block)
+      → viewOutcome (blockReceived s store id block) ≡ act (viewState s) store (transferData id counter block)
   unfolding act
   view-received counter long h =
       let few = count-fits s store (accepted-sound (viewState s) store (transferData id counter block) h) in

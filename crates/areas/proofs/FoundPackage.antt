@@ -3,12 +3,12 @@
 -- Assumes nothing.
 use Prim.Native.Nat.{ℕ, suc, _+_, _-_, _≤_, _<_}
 use mathlib.Core.Path.{_≡_, refl, sym, ap, subst, _∙_}
-use mathlib.Core.Bool.{Bool, true, false, cond}
+use mathlib.Core.Bool.{true}
 use mathlib.Core.List.{List, [], _∷_}
 use mathlib.Core.Option.{none, some}
 use native.Mathlib.Omega.{arith}
-use lib.Dec.{eqb, leb}
-use lib.ListN.{length, take, getD, set}
+use lib.Dec.{eqb}
+use lib.ListN.{length, take}
 use borrow.Author.Tests.{le-leb, leb-true}
 use Rattle.base.proofs.Tests.{bool-cases}
 use Rattle.clusters.specs.declared.table.Found.{Found}
@@ -17,11 +17,11 @@ use Rattle.clusters.specs.Exact.{putAt}
 use Rattle.clusters.proofs.Arrays.{set-put}
 use Rattle.model.specs.State as model
 use Rattle.model.specs.State.{Store}
-use Rattle.model.specs.Areas.{declared, find, packageOf, areaStart, changed, isTransferring}
+use Rattle.model.specs.Areas.{declared, find, areaStart, changed, isTransferring}
 use Rattle.model.specs.Sound.{packagesMost, receivedSound, sound}
 use Rattle.model.specs.Step.{unknown, withPackages}
-use Rattle.model.proofs.soundness.SoundFacts.{Sound, sound-says}
-use Rattle.model.proofs.soundness.Packages.{Fine, found-fine, found-known, found-is}
+use Rattle.model.proofs.soundness.SoundFacts.{sound-says}
+use Rattle.model.proofs.soundness.Packages.{found-fine}
 use Rattle.model.proofs.soundness.FinePackage.{part, whole}
 use Rattle.model.proofs.store.AreaStart.{area-inside}
 use Rattle.model.proofs.store.PackageAtIndex.{FirstAt, here, there, first-below, first-found, first-start, first-changed}

@@ -1,5 +1,5 @@
 pub mod Along
-pub mod FirstPlaces
-pub mod Kept
 pub mod FoundPackage
 pub mod PlacedPackage
+pub mod FirstPlaces
+pub mod Kept

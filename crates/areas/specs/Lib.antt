@@ -1,5 +1,5 @@
 pub mod Place
-pub mod FirstPlaces
-pub mod Deletion
 pub mod Changed
 pub mod Inside
+pub mod FirstPlaces
+pub mod Deletion

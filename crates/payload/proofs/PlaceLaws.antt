@@ -1,19 +1,17 @@
 -- Where the payload lies, by what the checks show: what the text of the area says, and the place that each way out gives. Assumes nothing.
 use Prim.Native.Nat.{ℕ, _+_, _-_, _≤_}
-use mathlib.Core.Path.{_≡_, refl, sym, ap, subst, _∙_}
+use mathlib.Core.Path.{_≡_, refl, sym, ap, _∙_}
 use mathlib.Core.Bool.{true, false}
 use mathlib.Core.List.{List}
-use mathlib.Core.Option.{some}
+use mathlib.Core.Option.{Option, none, some}
 use native.Mathlib.Omega.{arith}
 use lib.ListN.{length, take, length-take}
-use Rattle.base.specs.Refusals.{firstRefusal}
-use Rattle.manifest.specs.declared.package.PackageAnswer.{PackageAnswer}
+use Rattle.base.specs.Refusals.{firstRefusal, numberOrZero}
 use Rattle.manifest.specs.declared.package.PackageAnswer.the-variants as answer
 use Rattle.manifest.specs.declared.package.PackageRead.{PackageRead as PackageReadStruct}
 use Rattle.manifest.specs.Package.{PackageRead, illFormed, inconsistent, consistent, readPackage}
 use Rattle.manifest.specs.Refused.{packageRefusals}
-use Rattle.manifest.specs.Answer.{packageRead}
-use Rattle.manifest.proofs.Payload.{Says, answer-says}
+use Rattle.manifest.specs.Answer.{refusalNumber, packageRead}
 use Rattle.manifest.proofs.Within.{readPackage-within}
 use Rattle.model.specs.State as model
 use Rattle.model.specs.State.{Store}
@@ -21,6 +19,7 @@ use Rattle.model.specs.Areas.{find, areaStart, areaOf, isTransferring}
 use Rattle.model.specs.Step.{unknown, manifestOf}
 use Rattle.model.specs.Reading.{furtherPayloadRefusals}
 use Rattle.model.proofs.soundness.Packages.{found-known, found-is}
+use Rattle.state.proofs.Numbers.{zero-none}
 use Rattle.payload.specs.declared.place.PayloadPlace.{PayloadPlace}
 use Rattle.payload.specs.Place.{noPlace, placeUnless, placeOnSound}
 
@@ -46,10 +45,6 @@ count-read (consistent m) = refl
 
 -- r is what the reader in the code gave
 module _ (bytes : List ℕ) (r : PackageReadStruct) (e : r ≡ packageRead (readPackage bytes)) where
-  told-read : (a : PackageAnswer) → r .answer ≡ a → Says a (readPackage bytes)
-  told-read a f =
-      subst (λ (x : PackageAnswer). Says x (readPackage bytes)) (ap (λ (x : PackageReadStruct). x .answer) (sym e) ∙ f) (answer-says (readPackage bytes))
-
   told-start : r .start ≡ manifestOf (readPackage bytes) .start
   told-start = ap (λ (x : PackageReadStruct). x .start) e ∙ start-read (readPackage bytes)
 
@@ -80,23 +75,27 @@ module _ (s : model.State) (store : Store) (id : ℕ) (ps : List model.Package) 
     unfolding placeOnSound furtherPayloadRefusals firstRefusal
     read-place h = rw (same, found-known id ps p known, found-is id ps p known, h)
 
-    -- bytes are those of the area, and o what the reader in the code gave of them
-    module _ (idle : isTransferring (p .state) ≡ false) (bytes : List ℕ) (area : bytes ≡ areaOf id ps store) (o : PackageReadStruct) (e : o ≡ packageRead (readPackage bytes)) where
-      decided : (read : PackageRead) → readPackage bytes ≡ read → r ≡ placeUnless s store id (firstRefusal (packageRefusals read)) → r ≡ placeOnSound s store id
-      decided read f g = g ∙ ap (λ (x : PackageRead). placeUnless s store id (firstRefusal (packageRefusals x))) (sym f ∙ ap readPackage area) ∙ read-place idle
+    -- bytes are those of the area, and n the number of their refusal
+    module _ (idle : isTransferring (p .state) ≡ false) (bytes : List ℕ) (area : bytes ≡ areaOf id ps store) (n : ℕ) (told : n ≡ refusalNumber (readPackage bytes)) where
+      refusal : Option ℕ
+      refusal = firstRefusal (packageRefusals (readPackage bytes))
 
-      pub ill-formed-place : r ≡ noPlace 9 → o .answer ≡ answer.IllFormed → r ≡ placeOnSound s store id
-      unfolding firstRefusal
-      ill-formed-place g h = decided illFormed (told-read bytes o e answer.IllFormed h) g
+      decided : r ≡ placeUnless s store id refusal → r ≡ placeOnSound s store id
+      unfolding refusal
+      decided e = e ∙ ap (λ (l : List ℕ). placeUnless s store id (firstRefusal (packageRefusals (readPackage l)))) area ∙ read-place idle
 
-      pub inconsistent-place : r ≡ noPlace 10 → o .answer ≡ answer.Inconsistent → r ≡ placeOnSound s store id
-      unfolding firstRefusal
-      inconsistent-place g h = decided inconsistent (told-read bytes o e answer.Inconsistent h) g
+      pub refused-place : r ≡ noPlace n → (n ≡ 0 → ⊥) → r ≡ placeOnSound s store id
+      unfolding refusal
+      refused-place e applies = decided (e ∙ go refusal told)
+        where
+          go : (o : Option ℕ) → n ≡ numberOrZero o → noPlace n ≡ placeUnless s store id o
+          go none h = absurd (applies h)
+          go (some number) h = ap noPlace h
 
-      pub consistent-place : (at : ℕ) → at ≡ areaStart id ps → r ≡ record { number = 0; start = at + o .start; count = o .count }
-          → o .answer ≡ answer.Consistent → r ≡ placeOnSound s store id
-      unfolding firstRefusal
-      consistent-place at f g h =
-          let m = told-read bytes o e answer.Consistent h in
-          decided (consistent (m .0)) (m .1)
-          (g ∙ rw (same, f, told-start bytes o e, told-count bytes o e, area))
+      -- o is what the reader in the code gave
+      pub given-place : (at : ℕ) (o : PackageReadStruct) → at ≡ areaStart id ps → o ≡ packageRead (readPackage bytes)
+          → r ≡ record { number = 0; start = at + o .start; count = o .count } → n ≡ 0 → r ≡ placeOnSound s store id
+      unfolding refusal
+      given-place at o f e g zero =
+          let none-applies : refusal ≡ none = zero-none (packageRefusals (readPackage bytes)) refl (sym zero ∙ told) in
+          decided (g ∙ rw (none-applies, same, f, told-start bytes o e, told-count bytes o e, area))

@@ -1,13 +1,11 @@
 // Where the payload of a package lies in the store.
 use areas::lookup::find;
+use areas::reading::answer_refusal;
 use areas::sizes::area_start;
 use clusters::table::Found;
-use manifest::package::PackageAnswer;
 use manifest::package::read_package;
 use state::package::is_transferring;
-use state::refusal::INVALID_MANIFEST;
 use state::refusal::INVALID_TRANSFER_ID;
-use state::refusal::PACKAGE_INCONSISTENT;
 use state::refusal::WRONG_PACKAGE_STATE;
 use state::transfers::Transfers;
 ghost use mathlib.Core.Path.{_≡_};
@@ -53,13 +51,13 @@ pub fn payload_place(t: Transfers, store: &[u8], id: u32) -> PayloadPlace
     let end = area + p.size as usize;
     let read = read_package(&store[area..end]);
     let answer = read.answer;
-    match answer {
-        PackageAnswer::IllFormed => no_place(INVALID_MANIFEST),
-        PackageAnswer::Inconsistent => no_place(PACKAGE_INCONSISTENT),
-        PackageAnswer::Consistent => PayloadPlace {
-            number: 0,
-            start: area + read.start,
-            count: read.count,
-        },
+    let number = answer_refusal(answer);
+    if number != 0 {
+        return no_place(number);
+    }
+    PayloadPlace {
+        number: 0,
+        start: area + read.start,
+        count: read.count,
     }
 }

@@ -1,22 +1,22 @@
 -- TransferData on the structs and in the model: its refusals are the model's, where none applies the block has bytes and fits, it is
 -- written where the model puts it, and what is then given is seen as the model's. Assumes nothing.
-use Prim.Native.Nat.{ℕ, _+_, _-_, _≤_, _<_}
+use Prim.Native.Nat.{ℕ, _+_, _-_, _≤_}
 use mathlib.Core.Path.{_≡_, refl, sym, ap, _∙_}
-use mathlib.Core.Bool.{true, false, _||_}
+use mathlib.Core.Bool.{Bool, true, false, _||_}
 use mathlib.Core.List.{List}
 use mathlib.Core.Option.{none}
 use native.Mathlib.Omega.{arith}
 use lib.Dec.{ltb}
 use lib.ListN.{length, take}
-use borrow.Author.Tests.{lt-ltb, le-ltb, ltb-false}
+use borrow.Author.Tests.{lt-ltb, le-ltb, ltb-true, ltb-false}
 use Rattle.base.specs.Refusals.{firstRefusal, numberOrZero}
-use Rattle.base.proofs.Tests.{or-left-false, or-right-false}
+use Rattle.base.proofs.Tests.{or-left-false, or-right-false, bool-cases}
 use Rattle.model.specs.State.{Store}
-use Rattle.model.specs.Areas.{declared, packageOf, overwritten, blockPut}
+use Rattle.model.specs.Areas.{declared, overwritten, blockPut}
 use Rattle.model.specs.Areas as areas
 use Rattle.model.specs.Sound.{packagesMost}
 use Rattle.model.specs.Calls.{transferData}
-use Rattle.model.specs.Step.{unknown, ownRefusals, refusals, act}
+use Rattle.model.specs.Step.{ownRefusals, refusals, act}
 use Rattle.model.proofs.soundness.Accepted.{first-passed, rest-passed, passed-over, accepted-sound}
 use Rattle.model.proofs.soundness.Packages.{found-known, found-is}
 use Rattle.model.proofs.store.AreaStart.{block-at-start}
@@ -31,16 +31,16 @@ use Rattle.areas.specs.Changed.{packageAt, withChanged}
 use Rattle.areas.proofs.FoundPackage.{count-fits, FoundAt, view-changed, given-at}
 use Rattle.store.specs.Positions.{written}
 use Rattle.store.proofs.PositionLaws.{written-inside}
-use Rattle.transfer.specs.Data.{dataRefusals, BlockFits, receivedAt}
-use Rattle.transfer.specs.Data as specs
+use Rattle.transfer.specs.Data.{dataRefusals, BlockFits, blockReceivedAt, blockReceived}
 
--- "past the declared size", by what is left of it
-module _ (size received n : ℕ) (within : received ≤ size) where
-  pub past-size : size - received < n → ltb size (received + n) ≡ true
-  past-size h = lt-ltb size (received + n) (omega arith)
-
-  pub within-size : n ≤ size - received → ltb size (received + n) ≡ false
-  within-size h = le-ltb size (received + n) (omega arith)
+-- "data empty, or data past the declared size": by what is left of the size
+pub incorrect-size : (size received n : ℕ) (b : Bool) → received ≤ size → ltb n 1 || ltb (size - received) n ≡ b
+    → ltb n 1 || ltb size (received + n) ≡ b
+incorrect-size size received n b within e =
+    let left : ltb size (received + n) ≡ ltb (size - received) n =
+    bool-cases (ltb (size - received) n) (λ h. rw h (lt-ltb size (received + n) (omega (arith, ltb-true (size - received) n h))))
+    λ h. rw h (le-ltb size (received + n) (omega (arith, ltb-false (size - received) n h))) in
+    rw left e
 
 -- where none applies the block has bytes and fits
 pub block-fits : (s : State) (store : Store) (id i counter size n : ℕ) → FoundAt s store id i
@@ -75,8 +75,8 @@ module _ (s : State) (store : Store) (id : ℕ) (block : List ℕ) where
   -- a block accepted at the place of its package is accepted by the id
   pub data-given : (i : ℕ) (given : Outcome) → FoundAt s store id i
       → BlockFits (s .transfers) i (packageAt (s .transfers) i) (length store) (length block)
-      → given ≡ receivedAt s store i (packageAt (s .transfers) i) block → given ≡ specs.received s store id block
-  unfolding receivedAt
+      → given ≡ blockReceivedAt s store i (packageAt (s .transfers) i) block → given ≡ blockReceived s store id block
+  unfolding blockReceivedAt
   data-given i given found fits e =
       let p = packageAt (s .transfers) i in
       let start = declared (take i (viewPackages (s .transfers))) in
@@ -89,7 +89,7 @@ module _ (s : State) (store : Store) (id : ℕ) (block : List ℕ) where
   -- what is given is the model's
   pub view-received : (counter : ℕ) → length (s .transfers .packages) ≡ packagesMost
       → firstRefusal (refusals (viewState s) store (transferData id counter block)) ≡ none
-      → viewOutcome (specs.received s store id block) ≡ act (viewState s) store (transferData id counter block)
+      → viewOutcome (blockReceived s store id block) ≡ act (viewState s) store (transferData id counter block)
   unfolding act
   view-received counter long h =
       let few = count-fits s store (accepted-sound (viewState s) store (transferData id counter block) h) in

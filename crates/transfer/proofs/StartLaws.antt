@@ -1,15 +1,13 @@
 -- TransferStart on the structs and in the model: its refusals are the model's, where none applies there is room for a package and an id,
 -- and what it then gives is seen as the model's. Assumes nothing.
 use Prim.Native.Nat.{ℕ, _-_, _<_}
-use mathlib.Core.Path.{_≡_, refl, sym, ap, _∙_}
+use mathlib.Core.Path.{_≡_, refl, sym, _∙_}
 use mathlib.Core.Bool.{true}
-use mathlib.Core.List.{List}
 use mathlib.Core.Option.{none}
 use native.Mathlib.Omega.{arith}
 use lib.ListN.{length}
 use borrow.Author.Tests.{leb-false, ltb-false}
 use Rattle.base.specs.Refusals.{firstRefusal, numberOrZero}
-use Rattle.model.specs.State as model
 use Rattle.model.specs.State.{Store}
 use Rattle.model.specs.Areas.{declared, free}
 use Rattle.model.specs.Sound.{packagesMost, idMost, sound}

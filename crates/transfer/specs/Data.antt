@@ -27,7 +27,7 @@ dataRefusals p counter length =
     ∷ (refuse 7 when (ltb length 1 || ltb (p .size) (p .received + length)))
     ∷ []
 
--- what is known of a block that none of them refuses, of a length, for the package p at i in a store of a length
+-- what is known of a block of a size that none of them refuses, for the package p at i, in a store of a length
 pub record BlockFits (t : Transfers) (i : ℕ) (p : Struct) (storeLength size : ℕ) : Type 0 where
   pub inside : AreaInside t i p storeLength
   pub some : 1 ≤ size
@@ -35,15 +35,15 @@ pub record BlockFits (t : Transfers) (i : ℕ) (p : Struct) (storeLength size : 
   pub blocks : p .blocks ≤ p .received
 
 -- a block accepted for the package p at i: it stands behind the area's start and the bytes received so far
-unfoldable pub receivedAt : State → Store → ℕ → Struct → List ℕ → Outcome
-receivedAt s store i p block =
+unfoldable pub blockReceivedAt : State → Store → ℕ → Struct → List ℕ → Outcome
+blockReceivedAt s store i p block =
     outcome
     (answered Done (withTransfers (withPackage i (withBlock (length block) p) (s .transfers)) s))
     (written (declared (take i (viewPackages (s .transfers))) + p .received) block store)
 
 -- "the counter .. rises by one per accepted block. The block is written directly behind the bytes received so far."
-abbrev pub received : State → Store → ℕ → List ℕ → Outcome
-received s store id block =
+abbrev pub blockReceived : State → Store → ℕ → List ℕ → Outcome
+blockReceived s store id block =
     outcome
     (answered Done (withTransfers (withChanged id (withBlock (length block)) (s .transfers)) s))
     (blockPut id block (viewPackages (s .transfers)) store)

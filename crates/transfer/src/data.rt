@@ -31,7 +31,7 @@ ghost use Rattle.model.specs.Sound.{soundFor};
 ghost use Rattle.model.specs.Step.{step};
 ghost use Rattle.state.specs.View.{viewPackage, viewState};
 ghost use Rattle.state.specs.Outcome.{outcome, viewOutcome, SoundIfAccepted, called, calledOnSound};
-ghost use Rattle.transfer.specs.Data.{dataRefusals, BlockFits, receivedAt, received};
+ghost use Rattle.transfer.specs.Data.{dataRefusals, BlockFits, blockReceivedAt, blockReceived};
 
 // The number of the first of TransferData's own refusals behind 4 that applies, or 0. A sound state meets what is required.
 fn data_refusal(p: Package, counter: u32, length: usize) -> u32
@@ -45,19 +45,18 @@ fn data_refusal(p: Package, counter: u32, length: usize) -> u32
     if counter as u64 != p.blocks as u64 + 1 {
         return INCORRECT_BLOCK;
     }
-    if length < 1 {
-        return INCORRECT_SIZE;
-    }
-    if length > (p.size - p.received) as usize {
+    let left = p.size - p.received;
+    if (length < 1) | (length > left as usize) {
         return INCORRECT_SIZE;
     }
     0
 }
 
-// A block that fits is written behind the bytes that the package p at i received so far, and counted there.
+// A block that fits is written behind the bytes that the package p at i received so far, and counted there. What is required is known
+// where none of the refusals applies.
 fn accept_block(s: State, store: &mut [u8], i: usize, p: Package, block: &[u8]) -> Answered
     requires { ⌜ BlockFits (s .transfers) i p (length (now store)) (length (now block)) ⌝ }
-    ensures { λ r. ⌜ outcome r (now (store .exit)) ≡ receivedAt s (now (store .entry)) i p (now (block .entry)) ⌝ }
+    ensures { λ r. ⌜ outcome r (now (store .exit)) ≡ blockReceivedAt s (now (store .entry)) i p (now (block .entry)) ⌝ }
 {
     let t = s.transfers;
     store::put_block(store, area_start(t, i) + p.received as usize, block);
@@ -65,7 +64,7 @@ fn accept_block(s: State, store: &mut [u8], i: usize, p: Package, block: &[u8]) 
     answer_with(Answer::Done, with_transfers(s, changed))
 }
 
-// TransferData of a state that is known to be sound.
+// TransferData of a state that is known to be sound, which `transfer_data` checks.
 pub fn transfer_data_on_sound(
     s: State,
     store: &mut [u8],
@@ -74,7 +73,7 @@ pub fn transfer_data_on_sound(
     block: &[u8],
 ) -> Answered
     requires { ⌜ soundFor (viewState s) (length (now store)) ≡ true ⌝ }
-    ensures { λ r. ⌜ outcome r (now (store .exit)) ≡ calledOnSound s (now (store .entry)) (transferData id counter (now (block .entry))) (received s (now (store .entry)) id (now (block .entry))) ⌝ }
+    ensures { λ r. ⌜ outcome r (now (store .exit)) ≡ calledOnSound s (now (store .entry)) (transferData id counter (now (block .entry))) (blockReceived s (now (store .entry)) id (now (block .entry))) ⌝ }
 {
     let phase = s.phase;
     if !allowed(phase, TRANSFER_DATA) {
@@ -95,7 +94,7 @@ pub fn transfer_data_on_sound(
 // TransferData(id, block counter, data): the counter begins at 1 and rises by one per accepted block.
 pub fn transfer_data(s: State, store: &mut [u8], id: u32, counter: u32, block: &[u8]) -> Answered
     ensures meaning { λ r. ⌜ viewOutcome (outcome r (now (store .exit))) ≡ step (viewState s) (now (store .entry)) (transferData id counter (now (block .entry))) ⌝ }
-    ensures exact { λ r. ⌜ outcome r (now (store .exit)) ≡ called s (now (store .entry)) (transferData id counter (now (block .entry))) (received s (now (store .entry)) id (now (block .entry))) ⌝ }
+    ensures exact { λ r. ⌜ outcome r (now (store .exit)) ≡ called s (now (store .entry)) (transferData id counter (now (block .entry))) (blockReceived s (now (store .entry)) id (now (block .entry))) ⌝ }
     ensures sound { λ r. ⌜ SoundIfAccepted (outcome r (now (store .exit))) ⌝ }
 {
     if !sound(s, store.len()) {

@@ -58,7 +58,7 @@ fn exit_refusal(t: Transfers, i: usize, p: Package, store: &[u8]) -> u32
     area_refusal(&store[start..start + p.size as usize])
 }
 
-// The package p at i is Transferred.
+// The package p at i is Transferred. A place that was found meets what is required.
 fn accept_package(s: State, i: usize, p: Package) -> Answered
     requires { ⌜ i < packagesMost ⌝ }
     ensures { λ r. ⌜ r ≡ answered Done (withTransfers (withPackage i (inState Transferred p) (s .transfers)) s) ⌝ }
@@ -68,7 +68,7 @@ fn accept_package(s: State, i: usize, p: Package) -> Answered
     answer_with(Answer::Done, with_transfers(s, changed))
 }
 
-// TransferExit of a state that is known to be sound.
+// TransferExit of a state that is known to be sound, which `transfer_exit` checks.
 pub fn transfer_exit_on_sound(s: State, store: &[u8], id: u32) -> Answered
     requires { ⌜ soundFor (viewState s) (length (now store)) ≡ true ⌝ }
     ensures { λ r. ⌜ outcome r (now (store .entry)) ≡ calledOnSound s (now (store .entry)) (transferExit id) (exited s (now (store .entry)) id) ⌝ }

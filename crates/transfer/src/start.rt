@@ -48,7 +48,7 @@ fn start_refusal(size: u32, count: usize, free: usize, next: u64) -> u32
     0
 }
 
-// TransferStart of a state that is known to be sound.
+// TransferStart of a state that is known to be sound, which `transfer_start` checks.
 pub fn transfer_start_on_sound(s: State, store: &[u8], size: u32) -> Answered
     requires { ⌜ soundFor (viewState s) (length (now store)) ≡ true ⌝ }
     ensures { λ r. ⌜ outcome r (now (store .entry)) ≡ calledOnSound s (now (store .entry)) (transferStart size) (started s (now (store .entry)) size) ⌝ }

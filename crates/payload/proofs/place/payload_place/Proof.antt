@@ -9,7 +9,7 @@ use Rattle.model.specs.Sound.{packagesMost}
 use Rattle.areas.specs.Changed.{packageAt}
 use Rattle.areas.proofs.FoundPackage.{nothing-unknown}
 use Rattle.areas.proofs.PlacedPackage.{PlacedAt, placed-at, area-bytes}
-use Rattle.payload.proofs.PlaceLaws.{start-inside, unknown-place, transferring-place, ill-formed-place, inconsistent-place, consistent-place}
+use Rattle.payload.proofs.PlaceLaws.{start-inside, unknown-place, transferring-place, refused-place, given-place}
 use Rattle.payload.proofs.place.payload_place.Statement.{statement}
 use Rattle.payload.proofs.place.payload_place.Tie as tie
 
@@ -80,23 +80,22 @@ part-read-package-end c = omega (arith, c .before .area-start .ensures, placed (
 read-package-requires : tie.Need-read-package-requires
 read-package-requires c κs = search needs
 
-enum-told-2 : tie.Need-enum-told-2
-enum-told-2 c = search needs
+answer-refusal-requires : tie.Need-answer-refusal-requires
+answer-refusal-requires c κs = search needs
 
 no-place-requires-3 : tie.Need-no-place-requires-3
 no-place-requires-3 c κs = search needs
 
-enum-told-3 : tie.Need-enum-told-3
-enum-told-3 c = search needs
+returns-3 : tie.Need-returns-3
+returns-3 c s same =
+    let n = c .before .before in
+    let k = n .before .before .before in
+    let e = k .before .before in
+    let p = placed (e .before .before .before) in
+    refused-place s _ _ _ same _ _ (p .known) (sym (e .before .is-transferring .ensures) ∙ e .if1 .left) _ (area-bytes _ _ _ _ _ p (k .before .area-start .ensures)) _ (n .answer-refusal .ensures ∙ n .before .read-package .ensures .0) (c .no-place3 .ensures) (c .before .if2 .taken)
 
-no-place-requires-4 : tie.Need-no-place-requires-4
-no-place-requires-4 c κs = search needs
-
-enum-told-4 : tie.Need-enum-told-4
-enum-told-4 c = search needs
-
-add-t23 : tie.Need-add-t23
-add-t23 c =
+add-t15 : tie.Need-add-t15
+add-t15 c =
     let r = c .before .before .before in
     let k = r .before .before in
     let found = k .before .before .before .before .before in
@@ -104,29 +103,13 @@ add-t23 c =
     let inside : r .read-package .result .start ≤ at + size found - at = start-inside _ _ _ (r .read-package .ensures .1) in
     omega (arith, add-end k .fits)
 
-returns-3 : tie.Need-returns-3
-returns-3 c s same =
-    let r = c .before .before .before in
-    let k = r .before .before in
-    let e = k .before .before in
-    let p = placed (e .before .before .before) in
-    ill-formed-place s _ _ _ same _ _ (p .known) (sym (e .before .is-transferring .ensures) ∙ e .if1 .left) _ (area-bytes _ _ _ _ _ p (k .before .area-start .ensures)) _ (r .read-package .ensures .1) (c .no-place3 .ensures) (c .before .enum-told2 .given .1)
-
 returns-4 : tie.Need-returns-4
 returns-4 c s same =
-    let r = c .before .before .before in
-    let k = r .before .before in
+    let n = c .before .before in
+    let k = n .before .before .before in
     let e = k .before .before in
     let p = placed (e .before .before .before) in
-    inconsistent-place s _ _ _ same _ _ (p .known) (sym (e .before .is-transferring .ensures) ∙ e .if1 .left) _ (area-bytes _ _ _ _ _ p (k .before .area-start .ensures)) _ (r .read-package .ensures .1) (c .no-place4 .ensures) (c .before .enum-told3 .given .1)
-
-returns-5 : tie.Need-returns-5
-returns-5 c s same =
-    let r = c .before .before .before in
-    let k = r .before .before in
-    let e = k .before .before in
-    let p = placed (e .before .before .before) in
-    consistent-place s _ _ _ same _ _ (p .known) (sym (e .before .is-transferring .ensures) ∙ e .if1 .left) _ (area-bytes _ _ _ _ _ p (k .before .area-start .ensures)) _ (r .read-package .ensures .1) _ (k .before .area-start .ensures ∙ sym (p .start)) refl (c .before .enum-told4 .given .1)
+    given-place s _ _ _ same _ _ (p .known) (sym (e .before .is-transferring .ensures) ∙ e .if1 .left) _ (area-bytes _ _ _ _ _ p (k .before .area-start .ensures)) _ (n .answer-refusal .ensures ∙ n .before .read-package .ensures .0) _ _ (k .before .area-start .ensures ∙ sym (p .start)) (n .before .read-package .ensures .1) refl (c .before .if2 .left)
 
 pub payload-place-spec : {M : Type 1} → statement M
 payload-place-spec =
@@ -149,12 +132,8 @@ payload-place-spec =
     part-read-package-start
     part-read-package-end
     read-package-requires
-    enum-told-2
+    answer-refusal-requires
     no-place-requires-3
-    enum-told-3
-    no-place-requires-4
-    enum-told-4
-    add-t23
     returns-3
-    returns-4
-    returns-5)
+    add-t15
+    returns-4)

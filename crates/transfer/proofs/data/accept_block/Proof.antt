@@ -1,7 +1,7 @@
 -- `transfer::data::accept_block` meets its contract: the block behind the area's start and the bytes received. Assumes nothing.
 use borrow.Author.Needs.{needs}
 use Rattle.state.proofs.Ways.{ways}
-use Rattle.transfer.specs.Data.{receivedAt}
+use Rattle.transfer.specs.Data.{blockReceivedAt}
 use Rattle.transfer.proofs.DataLaws.{block-at}
 use Rattle.transfer.proofs.data.accept_block.Statement.{statement}
 use Rattle.transfer.proofs.data.accept_block.Tie as tie
@@ -37,7 +37,7 @@ same-length : tie.Need-same-length
 same-length c = search needs
 
 returns : tie.Need-returns
-unfolding receivedAt
+unfolding blockReceivedAt
 returns c = search (ways, block-at)
 
 pub accept-block-spec : {M : Type 1} → statement M

@@ -1,7 +1,8 @@
+-- `transfer::data::data_refusal` meets its contract: the same tests in the same order. Assumes nothing.
 use borrow.Author.Needs.{needs}
 use Rattle.state.proofs.Numbers.{numbers}
-use Rattle.transfer.proofs.DataLaws.{past-size, within-size}
 use Rattle.transfer.specs.Data.{dataRefusals}
+use Rattle.transfer.proofs.DataLaws.{incorrect-size}
 use Rattle.transfer.proofs.data.data_refusal.Statement.{statement}
 use Rattle.transfer.proofs.data.data_refusal.Tie as tie
 
@@ -10,7 +11,7 @@ is-transferring-requires c κs = search needs
 
 returns : tie.Need-returns
 unfolding dataRefusals
-returns c = search numbers depth 7
+returns c = search numbers
 
 cast-if2 : tie.Need-cast-if2
 cast-if2 c = search needs
@@ -20,25 +21,21 @@ add-if2 c = search needs
 
 returns-2 : tie.Need-returns-2
 unfolding dataRefusals
-returns-2 c = search numbers depth 7
+returns-2 c = search numbers
+
+sub-left : tie.Need-sub-left
+sub-left c = search needs
+
+cast-if3 : tie.Need-cast-if3
+cast-if3 c = search needs
 
 returns-3 : tie.Need-returns-3
 unfolding dataRefusals
-returns-3 c = search numbers depth 7
-
-sub-if4 : tie.Need-sub-if4
-sub-if4 c = search needs
-
-cast-if4 : tie.Need-cast-if4
-cast-if4 c = search needs
+returns-3 c = search (numbers, incorrect-size)
 
 returns-4 : tie.Need-returns-4
 unfolding dataRefusals
-returns-4 c = search (numbers, past-size) depth 7
-
-returns-5 : tie.Need-returns-5
-unfolding dataRefusals
-returns-5 c = search (numbers, within-size) depth 7
+returns-4 c = search (numbers, incorrect-size)
 
 pub data-refusal-spec : {M : Type 1} → statement M
 data-refusal-spec =
@@ -49,8 +46,7 @@ data-refusal-spec =
     cast-if2
     add-if2
     returns-2
+    sub-left
+    cast-if3
     returns-3
-    sub-if4
-    cast-if4
-    returns-4
-    returns-5)
+    returns-4)

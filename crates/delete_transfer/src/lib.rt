@@ -1,0 +1,92 @@
+// DeleteTransfer: a package is taken out, and its area with it.
+use areas::deletion::Deletion;
+use areas::deletion::delete_areas;
+use areas::deletion::remaining;
+use areas::lookup::find;
+use clusters::table::Found;
+use soundness::sound::sound;
+use state::answer::Answer;
+use state::answer::Answered;
+use state::answer::answer_with;
+use state::answer::refused;
+use state::package::PackageState;
+use state::package::is_being_processed;
+use state::package::is_processed;
+use state::permissions::DELETE_TRANSFER;
+use state::permissions::allowed;
+use state::refusal::BAD_STATE;
+use state::refusal::INVALID_TRANSFER_ID;
+use state::refusal::OPERATION_NOT_PERMITTED;
+use state::refusal::WRONG_PACKAGE_STATE;
+use state::state::State;
+use state::state::with_transfers;
+ghost use mathlib.Core.Path.{_≡_};
+ghost use mathlib.Core.Bool.{true};
+ghost use Prim.Native.Nat.{_≤_};
+ghost use lib.ListN.{length};
+ghost use Rattle.base.specs.Refusals.{firstRefusal, numberOrZero};
+ghost use Rattle.model.specs.Areas.{declared};
+ghost use Rattle.model.specs.Calls.{deleteTransfer};
+ghost use Rattle.model.specs.Sound.{packagesMost, soundFor};
+ghost use Rattle.model.specs.Step.{step};
+ghost use Rattle.state.specs.View.{viewPackageState, viewPackages, viewState};
+ghost use Rattle.state.specs.Outcome.{outcome, viewOutcome, SoundIfAccepted, called, calledOnSound};
+ghost use Rattle.delete_transfer.specs.Delete.{deleteRefusals, withoutTransfer};
+
+// The number of DeleteTransfer's own refusal behind 4 if it applies, or 0.
+fn delete_refusal(state: PackageState) -> u32
+    ensures { λ r. ⌜ r ≡ numberOrZero (firstRefusal (deleteRefusals (viewPackageState state))) ⌝ }
+{
+    if is_being_processed(state) {
+        return WRONG_PACKAGE_STATE;
+    }
+    if is_processed(state) {
+        return WRONG_PACKAGE_STATE;
+    }
+    0
+}
+
+// The package with an id and its area are taken out. A sound state meets what is required.
+fn take_out(s: State, store: &mut [u8], id: u32) -> Answered
+    requires { ⌜ (s .transfers .count ≤ packagesMost) × (declared (viewPackages (s .transfers)) ≤ length (now store)) ⌝ }
+    ensures { λ r. ⌜ outcome r (now (store .exit)) ≡ withoutTransfer s (now (store .entry)) id ⌝ }
+{
+    let t = s.transfers;
+    let deletion = Deletion::WithId(id);
+    delete_areas(t, deletion, store);
+    answer_with(Answer::Done, with_transfers(s, remaining(t, deletion)))
+}
+
+// DeleteTransfer of a state that is known to be sound.
+pub fn delete_transfer_on_sound(s: State, store: &mut [u8], id: u32) -> Answered
+    requires { ⌜ soundFor (viewState s) (length (now store)) ≡ true ⌝ }
+    ensures { λ r. ⌜ outcome r (now (store .exit)) ≡ calledOnSound s (now (store .entry)) (deleteTransfer id) (withoutTransfer s (now (store .entry)) id) ⌝ }
+{
+    let phase = s.phase;
+    if !allowed(phase, DELETE_TRANSFER) {
+        return refused(s, OPERATION_NOT_PERMITTED);
+    }
+    let t = s.transfers;
+    let Found::At(i) = find(t, id) else {
+        return refused(s, INVALID_TRANSFER_ID);
+    };
+    let p = t.packages[i];
+    let state = p.state;
+    let number = delete_refusal(state);
+    if number != 0 {
+        return refused(s, number);
+    }
+    take_out(s, store, id)
+}
+
+// DeleteTransfer(id): the package is taken out, and later areas move down.
+pub fn delete_transfer(s: State, store: &mut [u8], id: u32) -> Answered
+    ensures meaning { λ r. ⌜ viewOutcome (outcome r (now (store .exit))) ≡ step (viewState s) (now (store .entry)) (deleteTransfer id) ⌝ }
+    ensures exact { λ r. ⌜ outcome r (now (store .exit)) ≡ called s (now (store .entry)) (deleteTransfer id) (withoutTransfer s (now (store .entry)) id) ⌝ }
+    ensures sound { λ r. ⌜ SoundIfAccepted (outcome r (now (store .exit))) ⌝ }
+{
+    if !sound(s, store.len()) {
+        return refused(s, BAD_STATE);
+    }
+    delete_transfer_on_sound(s, store, id)
+}

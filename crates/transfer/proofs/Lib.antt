@@ -1,4 +1,0 @@
-pub mod StartLaws
-pub mod DataLaws
-pub mod ExitLaws
-pub mod DeleteLaws

@@ -1,4 +1,0 @@
-pub mod Start
-pub mod Data
-pub mod Exit
-pub mod Delete

@@ -1,0 +1,104 @@
+// TransferData: a block of bytes is written behind those that its package received so far.
+use areas::lookup::find;
+use areas::sizes::area_start;
+use clusters::table::Found;
+use soundness::sound::sound;
+use state::answer::Answer;
+use state::answer::Answered;
+use state::answer::answer_with;
+use state::answer::refused;
+use state::package::Package;
+use state::package::is_transferring;
+use state::package::with_block;
+use state::permissions::TRANSFER_DATA;
+use state::permissions::allowed;
+use state::refusal::BAD_STATE;
+use state::refusal::INCORRECT_BLOCK;
+use state::refusal::INCORRECT_SIZE;
+use state::refusal::INVALID_TRANSFER_ID;
+use state::refusal::OPERATION_NOT_PERMITTED;
+use state::refusal::WRONG_PACKAGE_STATE;
+use state::state::State;
+use state::state::with_transfers;
+use state::transfers::with_package;
+ghost use mathlib.Core.Path.{_≡_};
+ghost use mathlib.Core.Bool.{true};
+ghost use Prim.Native.Nat.{_≤_};
+ghost use lib.ListN.{length};
+ghost use Rattle.base.specs.Refusals.{firstRefusal, numberOrZero};
+ghost use Rattle.model.specs.Calls.{transferData};
+ghost use Rattle.model.specs.Sound.{soundFor};
+ghost use Rattle.model.specs.Step.{step};
+ghost use Rattle.state.specs.View.{viewPackage, viewState};
+ghost use Rattle.state.specs.Outcome.{outcome, viewOutcome, SoundIfAccepted, called, calledOnSound};
+ghost use Rattle.transfer_data.specs.Data.{dataRefusals, BlockFits, blockReceivedAt, blockReceived};
+
+// The number of the first of TransferData's own refusals behind 4 that applies, or 0. A sound state meets what is required.
+fn data_refusal(p: Package, counter: u32, length: usize) -> u32
+    requires { ⌜ p .received ≤ p .size ⌝ }
+    ensures { λ r. ⌜ r ≡ numberOrZero (firstRefusal (dataRefusals (viewPackage p) counter length)) ⌝ }
+{
+    let state = p.state;
+    if !is_transferring(state) {
+        return WRONG_PACKAGE_STATE;
+    }
+    if counter as u64 != p.blocks as u64 + 1 {
+        return INCORRECT_BLOCK;
+    }
+    let left = p.size - p.received;
+    if (length < 1) | (length > left as usize) {
+        return INCORRECT_SIZE;
+    }
+    0
+}
+
+// A block that fits is written behind the bytes that the package p at i received so far, and counted there. What is required is known
+// where none of the refusals applies.
+fn accept_block(s: State, store: &mut [u8], i: usize, p: Package, block: &[u8]) -> Answered
+    requires { ⌜ BlockFits (s .transfers) i p (length (now store)) (length (now block)) ⌝ }
+    ensures { λ r. ⌜ outcome r (now (store .exit)) ≡ blockReceivedAt s (now (store .entry)) i p (now (block .entry)) ⌝ }
+{
+    let t = s.transfers;
+    store::put_block(store, area_start(t, i) + p.received as usize, block);
+    let changed = with_package(t, i, with_block(p, block.len() as u32));
+    answer_with(Answer::Done, with_transfers(s, changed))
+}
+
+// TransferData of a state that is known to be sound, which `transfer_data` checks.
+pub fn transfer_data_on_sound(
+    s: State,
+    store: &mut [u8],
+    id: u32,
+    counter: u32,
+    block: &[u8],
+) -> Answered
+    requires { ⌜ soundFor (viewState s) (length (now store)) ≡ true ⌝ }
+    ensures { λ r. ⌜ outcome r (now (store .exit)) ≡ calledOnSound s (now (store .entry)) (transferData id counter (now (block .entry))) (blockReceived s (now (store .entry)) id (now (block .entry))) ⌝ }
+{
+    let phase = s.phase;
+    if !allowed(phase, TRANSFER_DATA) {
+        return refused(s, OPERATION_NOT_PERMITTED);
+    }
+    let t = s.transfers;
+    let Found::At(i) = find(t, id) else {
+        return refused(s, INVALID_TRANSFER_ID);
+    };
+    let p = t.packages[i];
+    let number = data_refusal(p, counter, block.len());
+    if number != 0 {
+        return refused(s, number);
+    }
+    accept_block(s, store, i, p, block)
+}
+
+// TransferData(id, block counter, data): the counter begins at 1 and rises by one per accepted block.
+pub fn transfer_data(s: State, store: &mut [u8], id: u32, counter: u32, block: &[u8]) -> Answered
+    ensures meaning { λ r. ⌜ viewOutcome (outcome r (now (store .exit))) ≡ step (viewState s) (now (store .entry)) (transferData id counter (now (block .entry))) ⌝ }
+    ensures exact { λ r. ⌜ outcome r (now (store .exit)) ≡ called s (now (store .entry)) (transferData id counter (now (block .entry))) (blockReceived s (now (store .entry)) id (now (block .entry))) ⌝ }
+    ensures sound { λ r. ⌜ SoundIfAccepted (outcome r (now (store .exit))) ⌝ }
+{
+    if !sound(s, store.len()) {
+        return refused(s, BAD_STATE);
+    }
+    transfer_data_on_sound(s, store, id, counter, block)
+}

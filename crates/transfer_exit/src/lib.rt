@@ -1,0 +1,102 @@
+// TransferExit: a package that has all its bytes is checked, and is Transferred.
+use areas::lookup::find;
+use areas::reading::area_refusal;
+use areas::sizes::area_start;
+use clusters::table::Found;
+use soundness::sound::sound;
+use state::answer::Answer;
+use state::answer::Answered;
+use state::answer::answer_with;
+use state::answer::refused;
+use state::package::Package;
+use state::package::PackageState;
+use state::package::in_state;
+use state::package::is_transferring;
+use state::permissions::TRANSFER_EXIT;
+use state::permissions::allowed;
+use state::refusal::BAD_STATE;
+use state::refusal::INSUFFICIENT_DATA;
+use state::refusal::INVALID_TRANSFER_ID;
+use state::refusal::OPERATION_NOT_PERMITTED;
+use state::refusal::WRONG_PACKAGE_STATE;
+use state::state::State;
+use state::state::with_transfers;
+use state::transfers::Transfers;
+use state::transfers::with_package;
+ghost use mathlib.Core.Path.{_≡_};
+ghost use mathlib.Core.Bool.{true};
+ghost use Prim.Native.Nat.{_<_};
+ghost use lib.ListN.{length, take, drop};
+ghost use Rattle.base.specs.Refusals.{firstRefusal, numberOrZero};
+ghost use Rattle.manifest.specs.Package.{readPackage};
+ghost use Rattle.model.specs.Areas.{declared};
+ghost use Rattle.model.specs.Calls.{transferExit};
+ghost use Rattle.model.specs.Sound.{packagesMost, soundFor};
+ghost use Rattle.model.specs.Step.{step};
+ghost use Rattle.state.specs.View.{viewPackage, viewPackages, viewState};
+ghost use Rattle.state.specs.declared.answer.Answer.the-variants.{Done};
+ghost use Rattle.state.specs.declared.package.PackageState.the-variants.{Transferred};
+ghost use Rattle.state.specs.Exact.{inState, withPackage, withTransfers};
+ghost use Rattle.state.specs.Outcome.{outcome, answered, viewOutcome, SoundIfAccepted, called, calledOnSound};
+ghost use Rattle.areas.specs.Inside.{AreaInside};
+ghost use Rattle.transfer_exit.specs.Exit.{exitRefusals, exited};
+
+// The number of the first of TransferExit's own refusals behind 4 that applies to the package p at i, or 0. A call that found the
+// package meets what is required.
+fn exit_refusal(t: Transfers, i: usize, p: Package, store: &[u8]) -> u32
+    requires { ⌜ AreaInside t i p (length (now store)) ⌝ }
+    ensures { λ r. ⌜ r ≡ numberOrZero (firstRefusal (exitRefusals (viewPackage p) (readPackage (take (p .size) (drop (declared (take i (viewPackages t))) (now (store .entry))))))) ⌝ }
+{
+    let state = p.state;
+    if !is_transferring(state) {
+        return WRONG_PACKAGE_STATE;
+    }
+    if p.received < p.size {
+        return INSUFFICIENT_DATA;
+    }
+    let start = area_start(t, i);
+    area_refusal(&store[start..start + p.size as usize])
+}
+
+// The package p at i is Transferred. A place that was found meets what is required.
+fn accept_package(s: State, i: usize, p: Package) -> Answered
+    requires { ⌜ i < packagesMost ⌝ }
+    ensures { λ r. ⌜ r ≡ answered Done (withTransfers (withPackage i (inState Transferred p) (s .transfers)) s) ⌝ }
+{
+    let t = s.transfers;
+    let changed = with_package(t, i, in_state(p, PackageState::Transferred));
+    answer_with(Answer::Done, with_transfers(s, changed))
+}
+
+// TransferExit of a state that is known to be sound, which `transfer_exit` checks.
+pub fn transfer_exit_on_sound(s: State, store: &[u8], id: u32) -> Answered
+    requires { ⌜ soundFor (viewState s) (length (now store)) ≡ true ⌝ }
+    ensures { λ r. ⌜ outcome r (now (store .entry)) ≡ calledOnSound s (now (store .entry)) (transferExit id) (exited s (now (store .entry)) id) ⌝ }
+{
+    let phase = s.phase;
+    if !allowed(phase, TRANSFER_EXIT) {
+        return refused(s, OPERATION_NOT_PERMITTED);
+    }
+    let t = s.transfers;
+    let Found::At(i) = find(t, id) else {
+        return refused(s, INVALID_TRANSFER_ID);
+    };
+    let p = t.packages[i];
+    let number = exit_refusal(t, i, p, store);
+    if number != 0 {
+        return refused(s, number);
+    }
+    accept_package(s, i, p)
+}
+
+// TransferExit(id): checks the package, which is then Transferred.
+pub fn transfer_exit(s: State, store: &[u8], id: u32) -> Answered
+    ensures meaning { λ r. ⌜ viewOutcome (outcome r (now (store .entry))) ≡ step (viewState s) (now (store .entry)) (transferExit id) ⌝ }
+    ensures exact { λ r. ⌜ outcome r (now (store .entry)) ≡ called s (now (store .entry)) (transferExit id) (exited s (now (store .entry)) id) ⌝ }
+    ensures sound { λ r. ⌜ SoundIfAccepted (outcome r (now (store .entry))) ⌝ }
+{
+    if !sound(s, store.len()) {
+        return refused(s, BAD_STATE);
+    }
+    transfer_exit_on_sound(s, store, id)
+}

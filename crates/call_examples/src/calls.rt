@@ -5,12 +5,12 @@ use cases::case::field;
 use cases::case::kind_of;
 use cases::show;
 use cases::values::number_of;
+use delete_transfer::delete_transfer;
 use load::load;
 use state::state::State;
-use transfer::data::transfer_data;
-use transfer::delete::delete_transfer;
-use transfer::exit::transfer_exit;
-use transfer::start::transfer_start;
+use transfer_data::transfer_data;
+use transfer_exit::transfer_exit;
+use transfer_start::transfer_start;
 
 // The bytes of a payload and the answer of the call beside Payload.
 fn show_payload(s: State, store: &[u8], id: u32) {

@@ -3,7 +3,7 @@ use Prim.Native.Nat.{ℕ}
 use mathlib.Core.Path.{refl}
 use mathlib.Core.Bool.{Bool, true, false}
 use mathlib.Core.List.{List, [], _∷_}
-use mathlib.Core.Option.{Option, none, some}
+use mathlib.Core.Option.{none, some}
 use Rattle.base.specs.Quoted.{bytes, LF, comma, dot}
 use Rattle.base.specs.Refusals.{Refusal, refuse_when_, firstRefusal, noneApplies, numberOrZero}
 use Rattle.base.specs.Counted.{counted}

@@ -2,7 +2,7 @@
 use Prim.Native.Nat.{ℕ}
 use mathlib.Core.Path.{_≡_, refl}
 use mathlib.Core.Bool.{true, false}
-use mathlib.Core.List.{List, [], _∷_}
+use mathlib.Core.List.{[], _∷_}
 use Rattle.base.specs.Quoted.{bytes}
 use Rattle.base.proofs.Tables.{_gives_, AllHold}
 use Rattle.checksum.specs.declared.Sums.{Sums}

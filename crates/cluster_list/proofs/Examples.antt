@@ -4,7 +4,7 @@ use Prim.Native.String.{String}
 use mathlib.Core.Path.{refl}
 use mathlib.Core.List.{List, [], _∷_, _++_}
 use mathlib.Core.Option.{Option, none, some}
-use lib.ListN.{length, take, drop}
+use lib.ListN.{length}
 use Rattle.base.specs.Quoted.{bytes, LF}
 use Rattle.base.proofs.Tables.{_gives_, AllHold, inLines}
 use Rattle.text.specs.declared.version.Version.{Version}

@@ -8,10 +8,8 @@ use lib.ListN.{length}
 use Rattle.text.specs.declared.cursor.Cursor.{Cursor}
 use Rattle.rows.specs.declared.line.Line.the-variants.{Ends}
 use Rattle.rows.specs.declared.columns.ClusterColumns.{ClusterColumns}
-use Rattle.rows.specs.declared.columns.ClusterColumnsRead.the-variants.{Named}
 use Rattle.rows.specs.Field.{cell}
 use Rattle.rows.specs.Line.{lineFrom}
-use Rattle.rows.specs.Columns.{clusterColumns}
 use Rattle.rows.specs.Names.{clusterNames}
 use Rattle.rows.proofs.LineBytes.{line-bytes}
 use Rattle.rows.proofs.NamesOnce.{Placed, clusterPlaces, cluster-names-differ, all-columns}

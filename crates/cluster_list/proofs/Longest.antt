@@ -8,11 +8,11 @@ use mathlib.Core.List.{List, [], _∷_, _++_}
 use mathlib.Core.Option.{some}
 use native.Mathlib.Omega.{arith}
 use lib.Dec.{leb}
-use lib.ListN.{length, take, drop, replicate, length-append}
+use lib.ListN.{length, replicate, length-append}
 use borrow.Author.Tests.{le-leb}
 use Rattle.base.proofs.Tests.{and-both}
 use Rattle.text.specs.declared.version.Version.{Version}
-use Rattle.text.specs.Digits.{lastDigit, digitsIn, digits}
+use Rattle.text.specs.Digits.{digitsIn, digits}
 use Rattle.text.specs.Version.{versionPartMost, versionWithin, versionText}
 use Rattle.text.proofs.DigitLaws.{ten-digits, digits-from}
 use Rattle.rows.specs.Line.{lineText}
@@ -21,7 +21,7 @@ use Rattle.clusters.specs.Cluster.{Cluster, partWithin, needWithin, needsWithin
 use Rattle.clusters.specs.Table.{Table, clustersMost, risingAbove, tableWithin}
 use Rattle.clusters.proofs.Limits.{rising-is}
 use Rattle.cluster_list.specs.Read.{readListMost, readList}
-use Rattle.cluster_list.specs.Write.{writtenListMost, namesLine, needCells, needLineText, needLinesText, writeList}
+use Rattle.cluster_list.specs.Write.{writtenListMost, namesLine, needLineText, needLinesText, writeList}
 use Rattle.cluster_list.proofs.RoundTrip.{linesWith, tableWith, writer-table, list-with-back}
 use Rattle.cluster_list.proofs.Lengths.{line-length, names-length}
 

@@ -1,7 +1,7 @@
 -- How long a text is that reads as a table: at most 11,868 bytes. A line that adds a cluster without a need, or a need, has at most 37
 -- bytes, and one that adds both at most 70; the names line has 28. Assumes nothing.
 use Prim.Native.Nat.{ℕ, zero, suc, _+_, _*_, _≤_}
-use mathlib.Core.Path.{_≡_, refl, ap, subst}
+use mathlib.Core.Path.{_≡_, subst}
 use mathlib.Core.Bool.{true, _&&_}
 use mathlib.Core.List.{List, [], _∷_, _++_}
 use mathlib.Core.Option.{Option, none, some}

@@ -6,9 +6,9 @@ use mathlib.Core.Bool.{true, false}
 use mathlib.Core.List.{List, [], _∷_, _++_, append-assoc, append-nil}
 use mathlib.Core.Option.{Option, some}
 use native.Mathlib.Omega.{arith}
-use lib.Dec.{leb, ltb}
+use lib.Dec.{leb}
 use lib.ListN.{length, take, drop, getD, length-take, length-drop, length-append, take-append-drop}
-use borrow.Author.Tests.{le-leb, lt-leb, leb-true, ltb-true, le-ltb}
+use borrow.Author.Tests.{le-leb, lt-leb, leb-true, le-ltb}
 use Rattle.base.proofs.Tests.{and-left, and-right, and-both}
 use Rattle.text.specs.declared.version.Version.{Version}
 use Rattle.text.specs.declared.number.Number.the-variants.{Value}

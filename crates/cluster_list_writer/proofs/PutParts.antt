@@ -1,18 +1,15 @@
 -- The parts of a list, each put behind the one before: the room that each has, and what they leave together. Assumes nothing.
 use Prim.Native.Nat.{ℕ, _+_, _≤_, _<_}
-use mathlib.Core.Path.{_≡_, refl, sym, ap, _∙_}
+use mathlib.Core.Path.{_≡_, ap, _∙_}
 use mathlib.Core.List.{List, [], _∷_, _++_}
 use native.Mathlib.Omega.{arith}
-use native.Mathlib.Nat.{add-zero}
-use native.Mathlib.Numerals.{add-one}
-use lib.ListN.{length, drop, getD, length-append, set, length-set, drop-of-length-le}
-use lib.Seq.{sets, drop-cons}
+use lib.ListN.{length, drop, length-append, set, length-set}
 use Rattle.base.specs.Quoted.{comma, LF}
 use Rattle.text.specs.declared.version.Version.{Version}
 use Rattle.text.specs.Digits.{digits}
 use Rattle.text.specs.Version.{versionText}
 use Rattle.text.specs.Put.{Put}
-use Rattle.text.proofs.PutLaws.{sets-append, put-length, put-nothing, put-byte, put-then, put-cons, put-last, room-first, room-next}
+use Rattle.text.proofs.PutLaws.{put-length, put-nothing, put-then, put-cons, put-last, room-first, room-next}
 use Rattle.rows.specs.Line.{lineText}
 use Rattle.clusters.specs.declared.cluster.Need.{Need}
 use Rattle.clusters.specs.declared.cluster.Cluster.{Cluster as ClusterStruct}

@@ -1,5 +1,4 @@
 // The parts of a list, each put at a place of a lent buffer. Their callers meet the `requires` from the room for the whole list.
-ghost use mathlib.Core.Path.{_≡_};
 ghost use mathlib.Core.List.{[], _∷_};
 ghost use Prim.Native.Nat.{_+_, _≤_};
 ghost use lib.ListN.{length, drop};

@@ -1,6 +1,6 @@
 -- What is read from a package's text is within the limits, the text with the payload is the whole area, and the struct that
 -- the code gives stands for it. Assumes nothing.
-use mathlib.Core.Path.{_≡_, refl, subst}
+use mathlib.Core.Path.{_≡_, subst}
 use mathlib.Core.Bool.{true, _&&_}
 use mathlib.Core.List.{List, [], _∷_}
 use mathlib.Core.Option.{Option, none, some}
@@ -11,28 +11,23 @@ use lib.ListN.{length, drop, getD, length-append}
 use borrow.Author.Tests.{eqb-true}
 use Rattle.base.specs.Quoted.{LF}
 use Rattle.base.proofs.Tests.{cond-cases}
-use Rattle.text.specs.Number.{wholeNumber}
-use Rattle.text.specs.Version.{wholeVersion}
-use Rattle.text.proofs.ThenLaws.{then-cases, then-cases-version}
-use Rattle.text.proofs.Meaning.{whole-number-most, whole-version-limits}
 use Rattle.rows.specs.declared.columns.PackageColumns.{PackageColumns}
-use Rattle.rows.specs.Field.{cell}
 use Rattle.rows.specs.Line.{lineFrom}
 use Rattle.rows.specs.Columns.{packageColumns}
 use Rattle.rows.proofs.ThenLaws.{then-cases-line, then-cases-package-columns}
 use Rattle.clusters.specs.declared.cluster.Need.{Need}
 use Rattle.actions.specs.declared.action.Change.{Change}
 use Rattle.actions.specs.declared.action.Change.the-variants.{Install, Update, Remove}
-use Rattle.clusters.specs.Cluster.{Cluster, cluster, withNeed, partWithin, needWithin, needsMost, clusterWithin}
+use Rattle.clusters.specs.Cluster.{Cluster, withNeed, needWithin, needsMost, clusterWithin}
 use Rattle.actions.specs.Action.{actionWithin}
 use Rattle.actions.specs.Struct.{structAction}
 use Rattle.actions.proofs.Structs.{view-struct-action}
 use Rattle.actions.specs.View.{viewAction, actionOf}
-use Rattle.cluster_list.specs.Cells.{partField, needFields}
+use Rattle.cluster_list.specs.Cells.{needFields}
 use Rattle.cluster_list.proofs.ThenLaws.{then-cases-need}
-use Rattle.cluster_list.proofs.CellsWithin.{part-read-within, need-read-within}
-use Rattle.cluster_list.proofs.Within.{then-cases-some, cluster-is-within, with-need-within, one-need-within, no-need-within}
-use Rattle.package_heading.specs.Heading.{Heading, payloadMost, sumMost, firstLine}
+use Rattle.cluster_list.proofs.CellsWithin.{need-read-within}
+use Rattle.cluster_list.proofs.Within.{then-cases-some, with-need-within}
+use Rattle.package_heading.specs.Heading.{payloadMost, sumMost, firstLine}
 use Rattle.package_heading.proofs.Within.{HeadingFacts, HeadingWithin, HasCluster, installs, updates, action-fine, first-line-within}
 use Rattle.manifest.specs.Package.{Manifest, PackageRead, illFormed, inconsistent, consistent, noCluster, noPayload, onlyNeed, Text, furtherLines, furtherMost, packageWith, readPackage}
 

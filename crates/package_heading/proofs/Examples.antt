@@ -2,14 +2,13 @@
 use Prim.Native.Nat.{ℕ}
 use Prim.Native.String.{String}
 use mathlib.Core.Path.{refl}
-use mathlib.Core.List.{List, [], _∷_}
+use mathlib.Core.List.{[], _∷_}
 use mathlib.Core.Option.{Option, none, some}
 use Rattle.base.specs.Quoted.{bytes}
 use Rattle.base.proofs.Tables.{_gives_, AllHold, inLines}
 use Rattle.text.specs.declared.version.Version.{Version}
 use Rattle.text.specs.Version.{version}
 use Rattle.rows.specs.declared.columns.PackageColumns.{PackageColumns}
-use Rattle.clusters.specs.declared.cluster.Need.{Need}
 use Rattle.actions.specs.declared.action.Change.{Change}
 use Rattle.actions.specs.declared.action.Change.the-variants.{Install, Update, Remove}
 use Rattle.clusters.specs.Cluster.{Cluster, cluster}

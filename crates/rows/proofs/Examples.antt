@@ -2,7 +2,7 @@
 use Prim.Native.Nat.{ℕ}
 use Prim.Native.String.{String}
 use mathlib.Core.Path.{refl}
-use mathlib.Core.Bool.{Bool, true, false}
+use mathlib.Core.Bool.{true, false}
 use mathlib.Core.List.{List, [], _∷_}
 use mathlib.Core.Option.{Option, none, some}
 use Rattle.base.specs.Quoted.{bytes}
@@ -12,7 +12,7 @@ use Rattle.rows.specs.declared.columns.PackageColumns.{PackageColumns}
 use Rattle.rows.specs.Field.{cell, isEmpty, plainField}
 use Rattle.rows.specs.Line.{lineFrom, lineText, andThenLine}
 use Rattle.rows.specs.Columns.{clusterColumns, packageColumns, andThenClusterColumns, andThenPackageColumns}
-use Rattle.rows.specs.Names.{clusterNames, timesNamed}
+use Rattle.rows.specs.Names.{timesNamed}
 use Rattle.rows.specs.Open.{computing}
 
 -- ---- fields and lines

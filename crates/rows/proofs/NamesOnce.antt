@@ -1,7 +1,7 @@
 -- "each once, in any order": a names line with as many fields as there are names, and each name among them, has each name exactly once
 -- and no other. Stated over the names; the four of a cluster list and the seven of a package follow. Assumes nothing.
 use Prim.Native.Nat.{ℕ, zero, suc, _+_, _≤_}
-use mathlib.Core.Path.{_≡_, refl, sym, ap, subst, _∙_}
+use mathlib.Core.Path.{_≡_, refl, sym, subst, _∙_}
 use mathlib.Core.Bool.{Bool, true, cond, _&&_}
 use mathlib.Core.List.{List, [], _∷_}
 use native.Mathlib.Omega.{arith}

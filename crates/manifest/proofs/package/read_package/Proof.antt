@@ -1,5 +1,5 @@
 -- `manifest::package::read_package` meets its contract: the number of the exact answer is that of what is read. Assumes nothing.
-use mathlib.Core.Path.{_≡_, ap, _∙_}
+use mathlib.Core.Path.{ap, _∙_}
 use Rattle.manifest.specs.declared.package.PackageRead.{PackageRead}
 use Rattle.manifest.specs.Answer.{answerNumber}
 use Rattle.manifest.proofs.Payload.{answer-number}

@@ -1,6 +1,6 @@
 -- `transfer::delete::take_out` meets its contract: other transfers and another store. Assumes nothing.
 use borrow.Author.Needs.{needs}
-use Rattle.state.proofs.Ways.{give-transfers}
+use Rattle.state.proofs.Ways.{ways}
 use Rattle.transfer.proofs.delete.take_out.Statement.{statement}
 use Rattle.transfer.proofs.delete.take_out.Tie as tie
 
@@ -20,7 +20,7 @@ same-length : tie.Need-same-length
 same-length c = search needs
 
 returns : tie.Need-returns
-returns c = search give-transfers
+returns c = search ways
 
 pub take-out-spec : {M : Type 1} → statement M
 take-out-spec =

@@ -1,5 +1,6 @@
 -- What a search for the package with an id says to a call on a sound state. Where it finds nothing the id is unknown. Where it finds a
--- place, the model's package with the id is the one there, its area lies in the store, and a change of it is the model's change.
+-- place, the model's package with the id is the one there, its area lies in the store and has the model's bytes, and a change of it is
+-- the model's change.
 -- Assumes nothing.
 use Prim.Native.Nat.{ℕ, suc, _+_, _-_, _≤_, _<_}
 use mathlib.Core.Path.{_≡_, refl, sym, ap, subst, _∙_}
@@ -8,7 +9,7 @@ use mathlib.Core.List.{List, [], _∷_}
 use mathlib.Core.Option.{none, some}
 use native.Mathlib.Omega.{arith}
 use lib.Dec.{eqb}
-use lib.ListN.{length, take}
+use lib.ListN.{length, take, drop}
 use borrow.Author.Tests.{le-leb, leb-true}
 use Rattle.base.proofs.Tests.{bool-cases}
 use Rattle.clusters.specs.declared.table.Found.{Found}
@@ -17,13 +18,13 @@ use Rattle.clusters.specs.Exact.{putAt}
 use Rattle.clusters.proofs.Arrays.{set-put}
 use Rattle.model.specs.State as model
 use Rattle.model.specs.State.{Store}
-use Rattle.model.specs.Areas.{declared, find, areaStart, changed, isTransferring}
+use Rattle.model.specs.Areas.{declared, find, areaStart, areaOf, changed, isTransferring}
 use Rattle.model.specs.Sound.{packagesMost, receivedSound, sound}
 use Rattle.model.specs.Step.{unknown, withPackages}
 use Rattle.model.proofs.soundness.SoundFacts.{sound-says}
 use Rattle.model.proofs.soundness.Packages.{found-fine}
 use Rattle.model.proofs.soundness.FinePackage.{part, whole}
-use Rattle.model.proofs.store.AreaStart.{area-inside}
+use Rattle.model.proofs.store.AreaStart.{area-inside, area-at-start}
 use Rattle.model.proofs.store.PackageAtIndex.{FirstAt, here, there, first-below, first-found, first-start, first-changed}
 use Rattle.state.specs.declared.package.Package.{Package}
 use Rattle.state.specs.declared.transfers.Transfers.{Transfers}
@@ -42,6 +43,11 @@ use Rattle.areas.proofs.Along.{packages-length, package-at}
 -- of a sound state the count of the packages fits
 pub count-fits : (s : State) (store : Store) → sound (viewState s) store ≡ true → s .transfers .count ≤ packagesMost
 count-fits s store ok = leb-true _ _ (sym (packages-fit (s .transfers)) ∙ le-leb _ _ (sound-says (viewState s) store ok .few))
+
+-- and the areas fit the store
+pub areas-fit : (s : State) (store : Store) → sound (viewState s) store ≡ true
+    → (s .transfers .count ≤ packagesMost) × (declared (viewPackages (s .transfers)) ≤ length store)
+areas-fit s store ok = (count-fits s store ok, sound-says (viewState s) store ok .fit)
 
 -- ---- the search
 
@@ -84,6 +90,36 @@ nothing-unknown r id ps e f = rw (unknown, nothing-found 0 id ps (sym e ∙ f))
 
 -- ---- a package found
 
+-- what the packages alone say of the one at the place i that was found
+pub record PlacedAt (t : Transfers) (store : Store) (id i : ℕ) : Type 0 where
+  pub below : i < t .count
+  pub known : find id (viewPackages t) ≡ some (viewPackage (packageAt t i))
+  pub start : areaStart id (viewPackages t) ≡ declared (take i (viewPackages t))
+  pub area : declared (take i (viewPackages t)) + packageAt t i .size ≤ length store
+
+-- r is what `find` gave
+pub placed-at : (t : Transfers) (store : Store) (id i : ℕ) (r : Found) → t .count ≤ packagesMost → length (t .packages) ≡ packagesMost
+    → declared (viewPackages t) ≤ length store → r ≡ placeOf id (viewPackages t) → r ≡ At i → PlacedAt t store id i
+placed-at t store id i r few long fit e f =
+    let ps = viewPackages t in
+    let p = viewPackage (packageAt t i) in
+    let first = place-first id ps i (sym e ∙ f) in
+    let below : i < t .count = omega (arith, first-below first, packages-length t few long) in
+    let known : find id ps ≡ some p = first-found first (viewPackage clearedPackage) ∙ ap some (package-at t few long i below) in
+    record {
+      below = below;
+      known = known;
+      start = first-start first;
+      area = omega (arith, area-inside id ps p known, first-start first);
+    }
+
+-- the bytes from the area's start up to its end
+pub area-bytes : (t : Transfers) (store : Store) (id i at : ℕ) → PlacedAt t store id i → at ≡ declared (take i (viewPackages t))
+    → take (at + packageAt t i .size - at) (drop at store) ≡ areaOf id (viewPackages t) store
+area-bytes t store id i at p e =
+    let size : at + packageAt t i .size - at ≡ packageAt t i .size = omega arith in
+    rw (size, area-at-start id (viewPackages t) (viewPackage (packageAt t i)) store (p .known), p .start, e)
+
 received-within : (p : model.Package) → receivedSound p ≡ true → p .received ≤ p .size
 received-within p h = bool-cases (isTransferring (p .state)) (λ b. part p b h) λ b. omega (arith, whole p b h)
 
@@ -101,25 +137,16 @@ pub found-at : (s : State) (store : Store) (id i : ℕ) (r : Found) → sound (v
     → length (s .transfers .packages) ≡ packagesMost → r ≡ placeOf id (viewPackages (s .transfers)) → r ≡ At i → FoundAt s store id i
 found-at s store id i r ok long e f =
     let t = s .transfers in
-    let ps = viewPackages t in
     let p = viewPackage (packageAt t i) in
     let facts = sound-says (viewState s) store ok in
     let few = count-fits s store ok in
-    let first = place-first id ps i (sym e ∙ f) in
-    let below : i < t .count = omega (arith, first-below first, packages-length t few long) in
-    let known : find id ps ≡ some p = first-found first (viewPackage clearedPackage) ∙ ap some (package-at t few long i below) in
-    let fine = found-fine 0 (t .next) id ps p (facts .rise) known in
+    let placed = placed-at t store id i r few long (facts .fit) e f in
+    let fine = found-fine 0 (t .next) id (viewPackages t) p (facts .rise) (placed .known) in
     record {
-      inside =
-          record {
-            few = few;
-            below = below;
-            area = omega (arith, area-inside id ps p known, first-start first, facts .fit);
-            room = facts .room;
-          };
+      inside = record { few = few; below = placed .below; area = placed .area; room = facts .room };
       place = sym e ∙ f;
-      known = known;
-      start = first-start first;
+      known = placed .known;
+      start = placed .start;
       received = received-within p (fine .received);
       blocks = fine .blocks;
     }

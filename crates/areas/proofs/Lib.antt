@@ -1,4 +1,5 @@
 pub mod Along
 pub mod FoundPackage
+pub mod ChangedPackage
 pub mod FirstPlaces
 pub mod Kept

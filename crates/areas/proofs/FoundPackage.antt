@@ -1,6 +1,5 @@
 -- What a search for the package with an id says to a call on a sound state. Where it finds nothing the id is unknown. Where it finds a
--- place, the model's package with the id is the one there, its area lies in the store, and a change of it is the model's change.
--- Assumes nothing.
+-- place, the model's package with the id is the one there, and its area lies in the store and has the model's bytes. Assumes nothing.
 use Prim.Native.Nat.{ℕ, suc, _+_, _-_, _≤_, _<_}
 use mathlib.Core.Path.{_≡_, refl, sym, ap, subst, _∙_}
 use mathlib.Core.Bool.{true}
@@ -8,40 +7,38 @@ use mathlib.Core.List.{List, [], _∷_}
 use mathlib.Core.Option.{none, some}
 use native.Mathlib.Omega.{arith}
 use lib.Dec.{eqb}
-use lib.ListN.{length, take}
+use lib.ListN.{length, take, drop}
 use borrow.Author.Tests.{le-leb, leb-true}
 use Rattle.base.proofs.Tests.{bool-cases}
 use Rattle.clusters.specs.declared.table.Found.{Found}
 use Rattle.clusters.specs.declared.table.Found.the-variants.{At, Nothing}
-use Rattle.clusters.specs.Exact.{putAt}
-use Rattle.clusters.proofs.Arrays.{set-put}
 use Rattle.model.specs.State as model
 use Rattle.model.specs.State.{Store}
-use Rattle.model.specs.Areas.{declared, find, areaStart, changed, isTransferring}
+use Rattle.model.specs.Areas.{declared, find, areaStart, areaOf, isTransferring}
 use Rattle.model.specs.Sound.{packagesMost, receivedSound, sound}
-use Rattle.model.specs.Step.{unknown, withPackages}
+use Rattle.model.specs.Step.{unknown}
 use Rattle.model.proofs.soundness.SoundFacts.{sound-says}
 use Rattle.model.proofs.soundness.Packages.{found-fine}
 use Rattle.model.proofs.soundness.FinePackage.{part, whole}
-use Rattle.model.proofs.store.AreaStart.{area-inside}
-use Rattle.model.proofs.store.PackageAtIndex.{FirstAt, here, there, first-below, first-found, first-start, first-changed}
-use Rattle.state.specs.declared.package.Package.{Package}
+use Rattle.model.proofs.store.AreaStart.{area-inside, area-at-start}
+use Rattle.model.proofs.store.PackageAtIndex.{FirstAt, here, there, first-below, first-found, first-start}
 use Rattle.state.specs.declared.transfers.Transfers.{Transfers}
 use Rattle.state.specs.declared.state.State.{State}
-use Rattle.state.specs.declared.answer.Answer.{Answer}
-use Rattle.state.specs.declared.answer.Answered.{Answered}
-use Rattle.state.specs.View.{viewPackage, clearedPackage, viewPackages, viewTransfers, viewState}
-use Rattle.state.specs.Exact.{withPackage, withTransfers}
-use Rattle.state.specs.Outcome.{outcome, answered}
-use Rattle.state.proofs.Views.{packages-fit, view-with-package}
+use Rattle.state.specs.View.{viewPackage, clearedPackage, viewPackages, viewState}
+use Rattle.state.proofs.Views.{packages-fit}
 use Rattle.areas.specs.Place.{placeFrom, placeOf}
 use Rattle.areas.specs.Inside.{AreaInside}
-use Rattle.areas.specs.Changed.{packageAt, changedAt, withChanged}
+use Rattle.areas.specs.Changed.{packageAt}
 use Rattle.areas.proofs.Along.{packages-length, package-at}
 
 -- of a sound state the count of the packages fits
 pub count-fits : (s : State) (store : Store) → sound (viewState s) store ≡ true → s .transfers .count ≤ packagesMost
 count-fits s store ok = leb-true _ _ (sym (packages-fit (s .transfers)) ∙ le-leb _ _ (sound-says (viewState s) store ok .few))
+
+-- and the areas fit the store
+pub areas-fit : (s : State) (store : Store) → sound (viewState s) store ≡ true
+    → (s .transfers .count ≤ packagesMost) × (declared (viewPackages (s .transfers)) ≤ length store)
+areas-fit s store ok = (count-fits s store ok, sound-says (viewState s) store ok .fit)
 
 -- ---- the search
 
@@ -62,27 +59,49 @@ first-from k id (p ∷ ps) i e =
 pub place-first : (id : ℕ) (ps : List model.Package) (i : ℕ) → placeOf id ps ≡ At i → FirstAt id ps i
 place-first id ps i e = let same : i - 0 ≡ i = omega arith in subst (λ (j : ℕ). FirstAt id ps j) same (first-from 0 id ps i e .1)
 
--- where nothing is found the id is unknown, and a change by the id changes nothing
-nothing-found : (k id : ℕ) (ps : List model.Package) → placeFrom k id ps ≡ Nothing → find id ps ≡ none
+-- where nothing is found no package has the id
+pub nothing-found : (k id : ℕ) (ps : List model.Package) → placeFrom k id ps ≡ Nothing → find id ps ≡ none
 unfolding placeFrom find
 nothing-found k id [] e = refl
 nothing-found k id (p ∷ ps) e =
     let ih : placeFrom (k + 1) id ps ≡ Nothing → find id ps ≡ none = nothing-found (k + 1) id ps in
     bool-cases (eqb id (p .id)) (λ b. let z : _≡_ {A = ℕ} 0 1 = cc (rw b at e) in absurd (omega arith)) λ b. rw b (ih (rw b at e))
 
-nothing-changed : (id : ℕ) (change : model.Package → model.Package) (ps : List model.Package) → find id ps ≡ none → ps ≡ changed id change ps
-unfolding find changed
-nothing-changed id change [] e = refl
-nothing-changed id change (p ∷ ps) e =
-    let ih : find id ps ≡ none → ps ≡ changed id change ps = nothing-changed id change ps in
-    bool-cases (eqb id (p .id)) (λ b. let z : _≡_ {A = ℕ} 0 1 = cc (rw b at e) in absurd (omega arith))
-    λ b. rw b (ap (λ (l : List model.Package). p ∷ l) (ih (rw b at e)))
-
 -- "4. InvalidTransferId: no package has the id": r is what `find` gave
 pub nothing-unknown : (r : Found) (id : ℕ) (ps : List model.Package) → r ≡ placeOf id ps → r ≡ Nothing → unknown id ps ≡ true
 nothing-unknown r id ps e f = rw (unknown, nothing-found 0 id ps (sym e ∙ f))
 
 -- ---- a package found
+
+-- what the packages alone say of the one at the place i that was found
+pub record PlacedAt (t : Transfers) (store : Store) (id i : ℕ) : Type 0 where
+  pub below : i < t .count
+  pub known : find id (viewPackages t) ≡ some (viewPackage (packageAt t i))
+  pub start : areaStart id (viewPackages t) ≡ declared (take i (viewPackages t))
+  pub area : declared (take i (viewPackages t)) + packageAt t i .size ≤ length store
+
+-- r is what `find` gave
+pub placed-at : (t : Transfers) (store : Store) (id i : ℕ) (r : Found) → t .count ≤ packagesMost → length (t .packages) ≡ packagesMost
+    → declared (viewPackages t) ≤ length store → r ≡ placeOf id (viewPackages t) → r ≡ At i → PlacedAt t store id i
+placed-at t store id i r few long fit e f =
+    let ps = viewPackages t in
+    let p = viewPackage (packageAt t i) in
+    let first = place-first id ps i (sym e ∙ f) in
+    let below : i < t .count = omega (arith, first-below first, packages-length t few long) in
+    let known : find id ps ≡ some p = first-found first (viewPackage clearedPackage) ∙ ap some (package-at t few long i below) in
+    record {
+      below = below;
+      known = known;
+      start = first-start first;
+      area = omega (arith, area-inside id ps p known, first-start first);
+    }
+
+-- the bytes from the area's start up to its end
+pub area-bytes : (t : Transfers) (store : Store) (id i at : ℕ) → PlacedAt t store id i → at ≡ declared (take i (viewPackages t))
+    → take (at + packageAt t i .size - at) (drop at store) ≡ areaOf id (viewPackages t) store
+area-bytes t store id i at p e =
+    let size : at + packageAt t i .size - at ≡ packageAt t i .size = omega arith in
+    rw (size, area-at-start id (viewPackages t) (viewPackage (packageAt t i)) store (p .known), p .start, e)
 
 received-within : (p : model.Package) → receivedSound p ≡ true → p .received ≤ p .size
 received-within p h = bool-cases (isTransferring (p .state)) (λ b. part p b h) λ b. omega (arith, whole p b h)
@@ -101,58 +120,16 @@ pub found-at : (s : State) (store : Store) (id i : ℕ) (r : Found) → sound (v
     → length (s .transfers .packages) ≡ packagesMost → r ≡ placeOf id (viewPackages (s .transfers)) → r ≡ At i → FoundAt s store id i
 found-at s store id i r ok long e f =
     let t = s .transfers in
-    let ps = viewPackages t in
     let p = viewPackage (packageAt t i) in
     let facts = sound-says (viewState s) store ok in
     let few = count-fits s store ok in
-    let first = place-first id ps i (sym e ∙ f) in
-    let below : i < t .count = omega (arith, first-below first, packages-length t few long) in
-    let known : find id ps ≡ some p = first-found first (viewPackage clearedPackage) ∙ ap some (package-at t few long i below) in
-    let fine = found-fine 0 (t .next) id ps p (facts .rise) known in
+    let placed = placed-at t store id i r few long (facts .fit) e f in
+    let fine = found-fine 0 (t .next) id (viewPackages t) p (facts .rise) (placed .known) in
     record {
-      inside =
-          record {
-            few = few;
-            below = below;
-            area = omega (arith, area-inside id ps p known, first-start first, facts .fit);
-            room = facts .room;
-          };
+      inside = record { few = few; below = placed .below; area = placed .area; room = facts .room };
       place = sym e ∙ f;
-      known = known;
-      start = first-start first;
+      known = placed .known;
+      start = placed .start;
       received = received-within p (fine .received);
       blocks = fine .blocks;
     }
-
--- ---- a package changed
-
-module _ (t : Transfers) (few : t .count ≤ packagesMost) (long : length (t .packages) ≡ packagesMost) (id : ℕ) where
-  -- the package changed at its place is the model's package changed by its id
-  pub view-changed : (change : Package → Package) (change′ : model.Package → model.Package)
-      → ((p : Package) → viewPackage (change p) ≡ change′ (viewPackage p))
-      → viewTransfers (withChanged id change t) ≡ withPackages (changed id change′ (viewPackages t)) (viewTransfers t)
-  unfolding withChanged
-  view-changed change change′ same = go (placeOf id (viewPackages t)) refl
-    where
-      ps : List model.Package
-      ps = viewPackages t
-
-      by-packages : {l : List model.Package} → l ≡ changed id change′ ps → withPackages l (viewTransfers t) ≡ withPackages (changed id change′ ps) (viewTransfers t)
-      by-packages e = ap (λ (l : List model.Package). withPackages l (viewTransfers t)) e
-
-      go : (r : Found) → placeOf id ps ≡ r → viewTransfers (changedAt change t r) ≡ withPackages (changed id change′ ps) (viewTransfers t)
-      go Nothing e = by-packages (nothing-changed id change′ ps (nothing-found 0 id ps e))
-      go (At i) e =
-          let first = place-first id ps i e in
-          let below : i < t .count = omega (arith, first-below first, packages-length t few long) in
-          by-packages
-          (view-with-package t i (change (packageAt t i)) few below (omega arith)
-          ∙ ap (λ (p : model.Package). putAt i p ps) (same (packageAt t i) ∙ ap change′ (sym (package-at t few long i below)))
-          ∙ sym (first-changed first change′ (viewPackage clearedPackage) ∙ set-put ps i _ (first-below first)))
-
--- a call that changes the package at its place changes the package of the id; stored is the store then
-pub given-at : (s : State) (store : Store) (id i : ℕ) (change : Package → Package) (answer : Answer) (r : Answered) (stored store′ : Store)
-    → FoundAt s store id i → r ≡ answered answer (withTransfers (withPackage i (change (packageAt (s .transfers) i)) (s .transfers)) s)
-    → store′ ≡ stored → outcome r store′ ≡ outcome (answered answer (withTransfers (withChanged id change (s .transfers)) s)) stored
-unfolding withChanged
-given-at s store id i change answer r stored store′ found e same = rw (e, same, found .place)

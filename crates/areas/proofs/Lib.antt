@@ -1,5 +1,5 @@
 pub mod Along
 pub mod FoundPackage
-pub mod PlacedPackage
+pub mod ChangedPackage
 pub mod FirstPlaces
 pub mod Kept

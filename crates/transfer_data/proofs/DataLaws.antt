@@ -28,7 +28,8 @@ use Rattle.state.specs.Outcome.{Outcome, viewOutcome}
 use Rattle.state.proofs.Outcomes.{view-packages}
 use Rattle.state.proofs.Numbers.{zero-none}
 use Rattle.areas.specs.Changed.{packageAt, withChanged}
-use Rattle.areas.proofs.FoundPackage.{count-fits, FoundAt, view-changed, given-at}
+use Rattle.areas.proofs.FoundPackage.{count-fits, FoundAt}
+use Rattle.areas.proofs.ChangedPackage.{view-changed, given-at}
 use Rattle.store.specs.Positions.{written}
 use Rattle.store.proofs.PositionLaws.{written-inside}
 use Rattle.transfer_data.specs.Data.{dataRefusals, BlockFits, blockReceivedAt, blockReceived}

@@ -24,7 +24,8 @@ use Rattle.state.specs.Exact.{inState}
 use Rattle.state.specs.Outcome.{viewOutcome}
 use Rattle.state.proofs.Outcomes.{view-packages}
 use Rattle.areas.specs.Changed.{packageAt, withChanged}
-use Rattle.areas.proofs.FoundPackage.{count-fits, FoundAt, view-changed}
+use Rattle.areas.proofs.FoundPackage.{count-fits, FoundAt}
+use Rattle.areas.proofs.ChangedPackage.{view-changed}
 use Rattle.transfer_exit.specs.Exit.{exitRefusals, exited}
 
 -- what is read from the start on that was computed, as many bytes as the size, is the area

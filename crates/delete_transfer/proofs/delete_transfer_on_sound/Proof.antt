@@ -8,8 +8,7 @@ use Rattle.base.proofs.Counted.{unmapped}
 use Rattle.model.specs.Sound.{packagesMost}
 use Rattle.model.specs.Step.{ownRefusals}
 use Rattle.state.proofs.Ways.{ways}
-use Rattle.areas.proofs.FoundPackage.{count-fits, nothing-unknown, FoundAt, found-at}
-use Rattle.areas.proofs.PlacedPackage.{areas-fit}
+use Rattle.areas.proofs.FoundPackage.{count-fits, nothing-unknown, FoundAt, found-at, areas-fit}
 use Rattle.delete_transfer.specs.Delete.{deleteRefusals}
 use Rattle.delete_transfer.proofs.DeleteLaws.{delete-own}
 use Rattle.delete_transfer.proofs.delete_transfer_on_sound.Statement.{statement}

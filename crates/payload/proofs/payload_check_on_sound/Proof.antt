@@ -1,7 +1,7 @@
 -- `payload::payload_check_on_sound` meets its contract: the number beside the place. Assumes nothing.
 use mathlib.Core.Path.{refl, ap, _∙_}
 use Rattle.state.specs.View.{viewState}
-use Rattle.areas.proofs.PlacedPackage.{areas-fit}
+use Rattle.areas.proofs.FoundPackage.{areas-fit}
 use Rattle.payload.specs.declared.place.PayloadPlace.{PayloadPlace}
 use Rattle.payload.proofs.PayloadLaws.{check-on-sound}
 use Rattle.payload.proofs.payload_check_on_sound.Statement.{statement}

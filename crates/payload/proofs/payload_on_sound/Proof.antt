@@ -3,7 +3,7 @@ use mathlib.Core.Path.{_≡_, refl}
 use Prim.Native.Nat.{_+_, _≤_}
 use lib.ListN.{length}
 use Rattle.state.specs.View.{viewState}
-use Rattle.areas.proofs.PlacedPackage.{areas-fit}
+use Rattle.areas.proofs.FoundPackage.{areas-fit}
 use Rattle.payload.specs.Place.{placeOnSound}
 use Rattle.payload.proofs.PayloadLaws.{sound-place, place-lies}
 use Rattle.payload.proofs.Parts.{part-at}

@@ -8,7 +8,8 @@ use Rattle.base.proofs.Counted.{unmapped}
 use Rattle.model.specs.Sound.{packagesMost}
 use Rattle.model.specs.Step.{ownRefusals}
 use Rattle.state.proofs.Ways.{ways}
-use Rattle.areas.proofs.FoundPackage.{count-fits, nothing-unknown, FoundAt, found-at, given-at}
+use Rattle.areas.proofs.FoundPackage.{count-fits, nothing-unknown, FoundAt, found-at}
+use Rattle.areas.proofs.ChangedPackage.{given-at}
 use Rattle.transfer_exit.specs.Exit.{exitRefusals}
 use Rattle.transfer_exit.proofs.ExitLaws.{exit-own}
 use Rattle.transfer_exit.proofs.transfer_exit_on_sound.Statement.{statement}

@@ -7,8 +7,7 @@ use lib.ListN.{length}
 use Rattle.base.proofs.Counted.{unmapped}
 use Rattle.model.specs.Sound.{packagesMost}
 use Rattle.areas.specs.Changed.{packageAt}
-use Rattle.areas.proofs.FoundPackage.{nothing-unknown}
-use Rattle.areas.proofs.PlacedPackage.{PlacedAt, placed-at, area-bytes}
+use Rattle.areas.proofs.FoundPackage.{nothing-unknown, PlacedAt, placed-at, area-bytes}
 use Rattle.payload.proofs.PlaceLaws.{start-inside, unknown-place, transferring-place, refused-place, given-place}
 use Rattle.payload.proofs.place.payload_place.Statement.{statement}
 use Rattle.payload.proofs.place.payload_place.Tie as tie

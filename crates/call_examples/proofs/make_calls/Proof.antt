@@ -1,77 +1,61 @@
+-- `call_examples::make_calls` is safe. The invariant: the store keeps its length; the measure is what is left of the input. Assumes nothing.
+use Prim.Native.Nat.{_-_}
+use mathlib.Core.Path.{_≡_}
+use lib.ListN.{length}
+use borrow.Author.Needs.{needs}
 use Rattle.call_examples.proofs.make_calls.Statement.{statement}
 use Rattle.call_examples.proofs.make_calls.Tie as tie
-use Rattle.call_examples.proofs.make_calls.Reads as reads
-use Rattle.call_examples.proofs.make_calls.Lts as lts
-use Rattle.bytes.proofs.scan.find.Reads as find-reads
-use Rattle.call_examples.proofs.calls.make_call.Reads as make-call-reads
-use Rattle.clusters.proofs.table.empty_table.Reads as empty-table-reads
-use Rattle.state.proofs.state.loaded_state.Reads as loaded-state-reads
 
 abbrev Inv-loop : tie.InvT-loop
-Inv-loop input store₀ s₀ at₀ store s at = ?
+Inv-loop input store₀ s₀ at₀ store s at = length store ≡ length store₀
 
 abbrev μ-loop : tie.MeasureT-loop
-μ-loop input store₀ s₀ at₀ store s at = ?
+μ-loop input store₀ s₀ at₀ store s at = length input - at
 
--- src/main.rt:14:30
 empty-table-requires : tie.Need-empty-table-requires Inv-loop μ-loop
-empty-table-requires c κs = ?
+empty-table-requires c κs = search needs
 
--- src/main.rt:14:9
 loaded-state-requires : tie.Need-loaded-state-requires Inv-loop μ-loop
-loaded-state-requires c κs = ?
+loaded-state-requires c κs = search needs
 
--- src/main.rt:16:5
 loop-holds : tie.Need-loop-holds Inv-loop μ-loop
-loop-holds c = ?
+loop-holds c = search needs
 
--- src/main.rt:17:13
 find-requires : tie.Need-find-requires Inv-loop μ-loop
-find-requires c κs = ?
+find-requires c κs = search needs
 
--- src/main.rt:18:33
 sub-make-call : tie.Need-sub-make-call Inv-loop μ-loop
-sub-make-call c = ?
+sub-make-call c = search needs
 
--- src/main.rt:18:33
 part-make-call-start : tie.Need-part-make-call-start Inv-loop μ-loop
-part-make-call-start c = ?
+part-make-call-start c = search needs
 
--- src/main.rt:18:33
 part-make-call-end : tie.Need-part-make-call-end Inv-loop μ-loop
-part-make-call-end c = ?
+part-make-call-end c = search needs
 
--- src/main.rt:18:9
 make-call-requires : tie.Need-make-call-requires Inv-loop μ-loop
-make-call-requires c κs = ?
+make-call-requires c κs = search needs
 
--- src/main.rt:20:13
 same-length : tie.Need-same-length Inv-loop μ-loop
-same-length c = ?
+same-length c = search needs
 
--- src/main.rt:20:13
 returns : tie.Need-returns Inv-loop μ-loop
-returns c = ?
+returns c = search needs
 
--- src/main.rt:22:14
 add-at : tie.Need-add-at Inv-loop μ-loop
-add-at c = ?
+add-at c = search needs
 
--- src/main.rt:16:5
 loop-less : tie.Need-loop-less Inv-loop μ-loop
-loop-less c = ?
+loop-less c = search needs
 
--- src/main.rt:16:5
 loop-again : tie.Need-loop-again Inv-loop μ-loop
-loop-again c = ?
+loop-again c = search needs
 
--- src/main.rt:13:1
 same-length-2 : tie.Need-same-length-2 Inv-loop μ-loop
-same-length-2 c = ?
+same-length-2 c = search needs
 
--- src/main.rt:13:1
 returns-2 : tie.Need-returns-2 Inv-loop μ-loop
-returns-2 c = ?
+returns-2 c = search needs
 
 pub make-calls-spec : {M : Type 1} → statement M
 make-calls-spec =

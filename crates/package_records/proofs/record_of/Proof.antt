@@ -1,7 +1,7 @@
--- `packages::record_of` meets its contract. Assumes nothing.
+-- `package_records::record_of` meets its contract. Assumes nothing.
 use borrow.Author.Needs.{needs}
-use Rattle.packages.proofs.record_of.Statement.{statement}
-use Rattle.packages.proofs.record_of.Tie as tie
+use Rattle.package_records.proofs.record_of.Statement.{statement}
+use Rattle.package_records.proofs.record_of.Tie as tie
 
 state-number-requires : tie.Need-state-number-requires
 state-number-requires c κs = search needs

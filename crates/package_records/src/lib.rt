@@ -10,7 +10,7 @@ ghost use Rattle.model.specs.State.{packageStateNumber};
 ghost use Rattle.model.specs.Sound.{packagesMost};
 ghost use Rattle.model.specs.Reading.{packageRecord};
 ghost use Rattle.state.specs.View.{viewPackageState, viewPackages};
-ghost use Rattle.packages.specs.Records.{recordOf, recordsOf, viewRecords};
+ghost use Rattle.package_records.specs.Records.{recordOf, recordsOf, viewRecords};
 
 pub struct Record {
     pub id: u32,
@@ -49,7 +49,7 @@ fn record_of(p: Package) -> Record
 }
 
 // The records of all packages. A sound state meets what is required.
-pub fn package_records(t: Transfers) -> Records
+pub fn records_of(t: Transfers) -> Records
     requires { ⌜ t .count ≤ packagesMost ⌝ }
     ensures meaning { λ r. ⌜ viewRecords r ≡ map packageRecord (viewPackages t) ⌝ }
     ensures exact { λ r. ⌜ r ≡ recordsOf t ⌝ }

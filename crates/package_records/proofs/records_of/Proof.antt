@@ -1,4 +1,4 @@
--- `packages::package_records` meets its contract. The loop's invariant: the first i records are those of the first i packages, and every
+-- `package_records::records_of` meets its contract. The loop's invariant: the first i records are those of the first i packages, and every
 -- other place is cleared. The measure is what is left of the packages. Assumes nothing.
 use borrow.Author.Needs.{needs}
 use native.Mathlib.Omega.{arith}
@@ -7,9 +7,9 @@ use Prim.Native.Nat.{_-_, _≤_}
 use lib.ListN.{length}
 use Rattle.base.proofs.Counted.{unmapped}
 use Rattle.model.specs.Sound.{packagesMost}
-use Rattle.packages.proofs.Recorded.{firstRecords, one-more, records-done}
-use Rattle.packages.proofs.package_records.Statement.{statement}
-use Rattle.packages.proofs.package_records.Tie as tie
+use Rattle.package_records.proofs.Recorded.{firstRecords, one-more, records-done}
+use Rattle.package_records.proofs.records_of.Statement.{statement}
+use Rattle.package_records.proofs.records_of.Tie as tie
 
 abbrev Inv-loop : tie.InvT-loop
 Inv-loop t count records₀ i₀ records i = (i ≤ count) × (records ≡ firstRecords i (t .packages))
@@ -54,8 +54,8 @@ returns c =
     let l = c .before in
     records-done (l .before .args .t1) (l .loop .i) _ (l .before .pre) (long (l .before)) (l .loop .inv .1) (omega arith)
 
-pub package-records-spec : {M : Type 1} → statement M
-package-records-spec =
+pub records-of-spec : {M : Type 1} → statement M
+records-of-spec =
     tie.close
     (tie.spec
     Inv-loop

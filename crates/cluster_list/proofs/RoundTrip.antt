@@ -1,5 +1,6 @@
 -- Reading what was written gives the same table, cell by cell: a field, a line, the lines of a cluster's needs, the lines of the
--- clusters. The clusters are read one behind the other, and `front` is what was read before them. Assumes nothing.
+-- clusters. The clusters are read one behind the other, and `front` is what was read before them. The first need of a cluster stands on
+-- its line, as our writer puts it, or below it as the others do: one law for both. Assumes nothing.
 use Prim.Native.Nat.{ℕ, zero, suc, _+_, _≤_, _<_}
 use mathlib.Core.Path.{_≡_, refl, ap, _∙_}
 use mathlib.Core.Bool.{true, false}

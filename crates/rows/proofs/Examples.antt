@@ -12,7 +12,7 @@ use Rattle.rows.specs.declared.columns.PackageColumns.{PackageColumns}
 use Rattle.rows.specs.Field.{cell, isEmpty, plainField}
 use Rattle.rows.specs.Line.{lineFrom, lineText, andThenLine}
 use Rattle.rows.specs.Columns.{clusterColumns, packageColumns, andThenClusterColumns, andThenPackageColumns}
-use Rattle.rows.specs.Names.{timesNamed}
+use Rattle.rows.specs.Names.{clusterNames, packageNames, timesNamed, timesIn}
 use Rattle.rows.specs.Open.{computing}
 
 -- ---- fields and lines
@@ -106,3 +106,22 @@ times-computed : AllHold (λ (name : String). timesNamed 3 (bytes name) (inLines
     ("sum" gives 2 ∷ "a" gives 1 ∷ "b" gives 0 ∷ "su" gives 0 ∷ [])
 unfolding computing
 times-computed = refl
+
+-- each name is in its list of names once, and no other is
+cluster-names-listed : AllHold (λ (name : String). timesIn (bytes name) clusterNames)
+    ("cluster" gives 1 ∷ "version" gives 1 ∷ "needs" gives 1 ∷ "least" gives 1 ∷ "sum" gives 0 ∷ "" gives 0 ∷ [])
+unfolding computing
+cluster-names-listed = refl
+
+package-names-listed : AllHold (λ (name : String). timesIn (bytes name) packageNames)
+    ("action" gives 1
+    ∷ "cluster" gives 1
+    ∷ "version" gives 1
+    ∷ "payload" gives 1
+    ∷ "sum" gives 1
+    ∷ "needs" gives 1
+    ∷ "least" gives 1
+    ∷ "" gives 0
+    ∷ [])
+unfolding computing
+package-names-listed = refl

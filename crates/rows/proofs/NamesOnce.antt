@@ -1,5 +1,5 @@
--- "each once, in any order": a names line with as many fields as there are names, and each name among them, has each name exactly once
--- and no other. Stated over the names; the four of a cluster list and the seven of a package follow. Assumes nothing.
+-- "each once, in any order": in a line with as many fields as there are names, and each name among them, a name stands as often as it is
+-- in the list of names. The four names of a cluster list and the seven of a package are each in theirs once. Assumes nothing.
 use Prim.Native.Nat.{ℕ, zero, suc, _+_, _≤_}
 use mathlib.Core.Path.{_≡_, refl, sym, subst, _∙_}
 use mathlib.Core.Bool.{Bool, true, cond, _&&_}
@@ -21,15 +21,10 @@ use Rattle.rows.specs.declared.columns.PackageColumnsRead.{PackageColumn
 use Rattle.rows.specs.declared.columns.PackageColumnsRead.the-variants as package-read
 use Rattle.rows.specs.Field.{behindField, cell}
 use Rattle.rows.specs.Columns.{columnFrom, clusterColumns, packageColumns}
-use Rattle.rows.specs.Names.{clusterNames, packageNames, timesNamed, EachOnce}
+use Rattle.rows.specs.Names.{clusterNames, packageNames, timesNamed, timesIn}
 use Rattle.rows.proofs.ColumnMeaning.{column-below, column-cell}
 use Rattle.rows.proofs.ThenLaws.{then-cases-column, then-cases-cluster-columns}
 use Rattle.rows.proofs.Totals.{totalOf, totalBelow, markAt, NoneTwice, EachBelow, all-places}
-
--- how often a name is in a list of names
-unfoldable pub timesIn : List ℕ → List (List ℕ) → ℕ
-timesIn name [] = 0
-timesIn name (other ∷ names) = cond (sameBytes other name) 1 0 + timesIn name names
 
 -- no name is twice in the list
 unfoldable pub different : List (List ℕ) → Bool
@@ -114,12 +109,9 @@ pub cluster-names-differ : different clusterNames ≡ true
 unfolding different timesIn sameBytes
 cluster-names-differ = refl
 
--- "each once, in any order"
-pub cluster-names-once : (l : List ℕ) (c : ClusterColumns) → clusterColumns 4 l ≡ cluster-read.Named c → EachOnce 4 l clusterNames
-unfolding timesIn sameBytes
-cluster-names-once l c e =
-    let often = as-often (cluster-placed 4 l c e) cluster-names-differ in
-    (often (bytes "cluster"), (often (bytes "version"), (often (bytes "needs"), (often (bytes "least"), tt))))
+pub cluster-names-once : (l : List ℕ) (c : ClusterColumns) → clusterColumns 4 l ≡ cluster-read.Named c
+    → (name : List ℕ) → timesNamed 4 name l ≡ timesIn name clusterNames
+cluster-names-once l c e = as-often (cluster-placed 4 l c e) cluster-names-differ
 
 -- ---- the seven names of a package
 
@@ -142,22 +134,10 @@ package-placed l =
         → Placed 7 l packageNames (action ∷ cluster ∷ version ∷ payload ∷ sum ∷ needs ∷ least ∷ [])
     among a p s (more c (more v (more n (more least rest)))) = more a (more c (more v (more p (more s (more n (more least none))))))
 
-pub package-names-once : (l : List ℕ) (c : PackageColumns) → packageColumns 7 l ≡ package-read.Named c → EachOnce 7 l packageNames
+package-names-differ : different packageNames ≡ true
 unfolding different timesIn sameBytes
-package-names-once l c e =
-    let often = as-often (subst (PackagePlaced l) e (package-placed l)) refl in (
-      often (bytes "action"),
-      (
-        often (bytes "cluster"),
-        (
-          often (bytes "version"),
-          (
-            often (bytes "payload"),
-            (
-              often (bytes "sum"),
-              (often (bytes "needs"), (often (bytes "least"), tt)),
-            ),
-          ),
-        ),
-      ),
-    )
+package-names-differ = refl
+
+pub package-names-once : (l : List ℕ) (c : PackageColumns) → packageColumns 7 l ≡ package-read.Named c
+    → (name : List ℕ) → timesNamed 7 name l ≡ timesIn name packageNames
+package-names-once l c e = as-often (subst (PackagePlaced l) e (package-placed l)) package-names-differ

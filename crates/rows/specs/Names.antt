@@ -2,7 +2,6 @@
 use Prim.Native.Nat.{ℕ, zero, suc, _+_}
 use mathlib.Core.Bool.{cond}
 use mathlib.Core.List.{List, [], _∷_}
-use mathlib.Core.Path.{_≡_}
 use Rattle.base.specs.Quoted.{bytes}
 use Rattle.text.specs.Word.{sameBytes}
 use Rattle.rows.specs.Field.{field, behindField}
@@ -28,7 +27,7 @@ unfoldable pub timesNamed : ℕ → List ℕ → List ℕ → ℕ
 timesNamed zero name l = 0
 timesNamed (suc fields) name l = cond (sameBytes (field l) name) 1 0 + timesNamed fields name (behindField l)
 
--- each of these names is exactly one of the fields
-abbrev pub EachOnce : ℕ → List ℕ → List (List ℕ) → Type 0
-EachOnce fields l [] = Unit {0}
-EachOnce fields l (name ∷ names) = (timesNamed fields name l ≡ 1) × EachOnce fields l names
+-- how often a name is in a list of names
+unfoldable pub timesIn : List ℕ → List (List ℕ) → ℕ
+timesIn name [] = 0
+timesIn name (other ∷ names) = cond (sameBytes other name) 1 0 + timesIn name names

@@ -3,8 +3,8 @@ use Rattle.text.specs.Open.{computing as textComputing}
 use Rattle.rows.specs.Field.{endsField, field, behindField, cell, fieldByte}
 use Rattle.rows.specs.Line.{lineFrom, lineText, plainFields}
 use Rattle.rows.specs.Columns.{columnFrom, clusterColumns, packageColumns}
-use Rattle.rows.specs.Names.{timesNamed}
+use Rattle.rows.specs.Names.{timesNamed, timesIn}
 
 unfoldable pub computing : Unit {0}
-unfolding textComputing endsField field behindField cell fieldByte lineFrom lineText plainFields columnFrom clusterColumns packageColumns timesNamed
+unfolding textComputing endsField field behindField cell fieldByte lineFrom lineText plainFields columnFrom clusterColumns packageColumns timesNamed timesIn
 computing = tt

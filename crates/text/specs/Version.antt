@@ -14,7 +14,7 @@ use Rattle.text.specs.Number.{numberAt}
 use Rattle.text.specs.Digits.{digits}
 use Rattle.text.specs.Then.{andThen, andThenVersion}
 
--- the version of these parts, from the left
+-- a version by its parts, in the order in which they are written
 abbrev pub version : ℕ → ℕ → ℕ → ℕ → Version
 version first second third fourth = record { first = first; second = second; third = third; fourth = fourth }
 

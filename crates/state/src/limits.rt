@@ -1,4 +1,6 @@
 // The limits of the manager's state: the one place in the code that has them.
+ghost use mathlib.Core.Path.{_≡_};
+ghost use Rattle.model.specs.Reading.{changeInfoMost};
 
 // The most packages.
 pub const PACKAGES_MOST: usize = 16;
@@ -14,3 +16,12 @@ pub const ID_MOST: u64 = 4294967295;
 
 // The largest sum of a payload.
 pub const SUM_MOST: u32 = 65535;
+
+// The bytes of the longest ChangeInfo.
+pub const CHANGE_INFO_MOST: usize = 319;
+
+pub fn longest_change_info() -> usize
+    ensures { λ r. ⌜ r ≡ changeInfoMost ⌝ }
+{
+    CHANGE_INFO_MOST
+}

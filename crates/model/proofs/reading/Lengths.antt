@@ -14,6 +14,7 @@ use Rattle.text.proofs.DigitLaws.{ten-digits}
 use Rattle.rows.specs.Line.{lineText}
 use Rattle.clusters.specs.Cluster.{partWithin, clusterWithin}
 use Rattle.actions.specs.Action.{Action, install, update, remove, actionPart, actionWithin, actionsWithin}
+use Rattle.cluster_list.specs.Write.{writtenListMost}
 use Rattle.cluster_list.proofs.Lengths.{list-most}
 use Rattle.model.specs.State.{PackageState, Package, State, Store, actions}
 use Rattle.model.specs.Areas.{isProcessed, countIn}
@@ -71,7 +72,7 @@ module _ (s : State) (store : Store) (h : sound s store ≡ true) where
   pub packages-most : length (packageRecords s) ≤ packagesMost
   packages-most = let ok = sound-says s store h in omega (arith, packages-length s, ok .few)
 
-  pub cluster-info-most : length (clusterInfo s) ≤ 11612
+  pub cluster-info-most : length (clusterInfo s) ≤ writtenListMost
   unfolding clusterInfo
   cluster-info-most = list-most (running s) (running-within s store h)
 

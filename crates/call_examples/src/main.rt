@@ -12,14 +12,12 @@ use state::state::loaded_state;
 // Each case, from behind its `#` to the next.
 fn make_calls(input: &[u8], store: &mut [u8]) {
     let mut s = loaded_state(empty_table(), 1);
-    let mut at = 1;
+    let mut at = 0;
     while at < input.len() {
-        let end = bytes::scan::find(input, at, input.len(), b'#');
-        s = make_call(s, store, &input[at..end]);
-        if input.len() <= end {
-            return;
-        }
-        at = end + 1;
+        let from = at + 1;
+        let end = bytes::scan::find(input, from, input.len(), b'#');
+        s = make_call(s, store, &input[from..end]);
+        at = end;
     }
 }
 

@@ -9,7 +9,7 @@ use Rattle.text.specs.Version.{version, versionWithin}
 use Rattle.clusters.specs.Version.{above}
 use Rattle.clusters.specs.Cluster.{Cluster, cluster, need, partWithin, needsWithin, clusterWithin}
 use Rattle.clusters.specs.Table.{Table, find, present}
-use Rattle.clusters.proofs.Cases.{_gives_, Hold}
+use Rattle.base.proofs.Tables.{_gives_, AllHold}
 use Rattle.clusters.proofs.Examples.{plain, plainTo}
 use Rattle.actions.specs.declared.action.Change.the-variants.{Install, Update, Remove}
 use Rattle.actions.specs.Action.{Action, install, update, remove, insert, replace, takeOut, apply, applyAll, actionWithin, actionsWithin}
@@ -26,7 +26,7 @@ abbrev newer : ℕ → Cluster
 newer part = cluster part (version 1 0 4 1) (need 20 (version 1 0 4 0) ∷ [])
 
 -- "install adds the cluster with the package's version and needs"
-pub inserted : Hold (λ part. insert (newer part) three) (
+pub inserted : AllHold (λ part. insert (newer part) three) (
     5 gives (newer 5 ∷ three)
     ∷ 15 gives (plain 10 ∷ newer 15 ∷ plain 20 ∷ plain 30 ∷ [])
     ∷ 25 gives (plain 10 ∷ plain 20 ∷ newer 25 ∷ plain 30 ∷ [])
@@ -40,7 +40,7 @@ unfolding insert
 insertedFirst = refl
 
 -- "update replaces both"; one that is not there changes nothing
-pub replaced : Hold (λ part. replace (newer part) three) (
+pub replaced : AllHold (λ part. replace (newer part) three) (
     10 gives (newer 10 ∷ plain 20 ∷ plain 30 ∷ [])
     ∷ 20 gives (plain 10 ∷ newer 20 ∷ plain 30 ∷ [])
     ∷ 30 gives (plain 10 ∷ plain 20 ∷ newer 30 ∷ [])
@@ -50,7 +50,7 @@ unfolding replace
 replaced = refl
 
 -- "remove takes the cluster out"
-pub takenOut : Hold (λ part. takeOut part three) (
+pub takenOut : AllHold (λ part. takeOut part three) (
     10 gives (plain 20 ∷ plain 30 ∷ [])
     ∷ 20 gives (plain 10 ∷ plain 30 ∷ [])
     ∷ 30 gives (plain 10 ∷ plain 20 ∷ [])
@@ -60,7 +60,7 @@ unfolding takeOut
 takenOut = refl
 
 -- each action, and actions in order
-pub applied : Hold (applyAll three) (
+pub applied : AllHold (applyAll three) (
     [] gives three
     ∷ (install (newer 15) ∷ []) gives insert (newer 15) three
     ∷ (update (newer 20) ∷ []) gives replace (newer 20) three
@@ -72,7 +72,7 @@ unfolding insert replace takeOut apply applyAll
 applied = refl
 
 -- the limits of a cluster for an install and an update, of a part number for a remove
-pub actionLimits : Hold actionWithin (
+pub actionLimits : AllHold actionWithin (
     install (plain 1) gives true
     ∷ install (plain 0) gives false
     ∷ update (plain 1) gives true
@@ -85,7 +85,7 @@ pub actionLimits : Hold actionWithin (
 unfolding versionWithin partWithin needsWithin clusterWithin actionWithin
 actionLimits = refl
 
-pub listLimits : Hold actionsWithin (
+pub listLimits : AllHold actionsWithin (
     [] gives true
     ∷ (remove 1 ∷ remove 2 ∷ []) gives true
     ∷ (remove 0 ∷ remove 2 ∷ []) gives false
@@ -95,7 +95,7 @@ unfolding partWithin actionWithin actionsWithin
 listLimits = refl
 
 -- the three changes
-pub changes : Hold (λ change. actionOf change (newer 10)) (
+pub changes : AllHold (λ change. actionOf change (newer 10)) (
     Install gives install (newer 10)
     ∷ Update gives update (newer 10)
     ∷ Remove gives remove 10
@@ -105,7 +105,7 @@ changes = refl
 -- ---- 11 to 15
 
 -- some action of the list is about the cluster
-pub listTouches : Hold (λ part. touched part (install (plain 10) ∷ update (plain 20) ∷ remove 30 ∷ [])) (
+pub listTouches : AllHold (λ part. touched part (install (plain 10) ∷ update (plain 20) ∷ remove 30 ∷ [])) (
     10 gives true
     ∷ 20 gives true
     ∷ 30 gives true
@@ -155,7 +155,7 @@ abbrev full : Table
 full = plainTo 64
 
 -- each of 11 to 15 alone, at its limits, and each two that can apply at once
-pub refusals : Hold answered (
+pub refusals : AllHold answered (
     -- 11
     asked three (update (plain 20) ∷ []) (remove 20) gives refusedBy 11 []
     ∷ asked three (update (plain 20) ∷ []) (remove 10) gives accepted
@@ -231,7 +231,7 @@ abbrev inTurn : Table × List Action × List Action → Bool
 inTurn q = passInTurn (q .0) (q .1) (q .2)
 
 -- "pass 11 to 15 in turn": each after those before it
-pub turns : Hold inTurn (
+pub turns : AllHold inTurn (
     (three, [], []) gives true
     ∷ (three, [], update (newer 20) ∷ remove 30 ∷ install (plain 15) ∷ []) gives true
     -- each is refused by itself: the first, the last

@@ -14,12 +14,12 @@ use Rattle.clusters.specs.Version.{above, atOrAbove}
 use Rattle.clusters.specs.Cluster.{Cluster, cluster, need, partWithin, needWithin, needsWithin, clusterWithin}
 use Rattle.clusters.specs.Table.{Table, find, present, meets, meetsAll, needsMetOf, needsMet, risingAbove, tableWithin}
 use Rattle.clusters.specs.Place.{placeAmong, placeOf}
-use Rattle.clusters.proofs.Cases.{_gives_, Hold}
+use Rattle.base.proofs.Tables.{_gives_, AllHold}
 
 -- ---- versions
 
 -- "four parts of 0 to 65,535"
-pub versionLimits : Hold versionWithin (
+pub versionLimits : AllHold versionWithin (
     version 0 0 0 0 gives true
     ∷ version 65535 65535 65535 65535 gives true
     ∷ version 65536 0 0 0 gives false
@@ -35,7 +35,7 @@ abbrev aboveEitherWay : Version × Version → Bool × Bool
 aboveEitherWay p = (above (p .0) (p .1), above (p .1) (p .0))
 
 -- "compared part by part from the left"
-pub comparisons : Hold aboveEitherWay (
+pub comparisons : AllHold aboveEitherWay (
     (version 2 0 0 0, version 1 9 9 9) gives (true, false)
     ∷ (version 1 2 0 0, version 1 1 9 9) gives (true, false)
     ∷ (version 1 1 2 0, version 1 1 1 9) gives (true, false)
@@ -47,7 +47,7 @@ unfolding above
 comparisons = refl
 
 -- "at the least version or above", which is the second
-pub leastVersions : Hold (λ (p : Version × Version). atOrAbove (p .0) (p .1)) (
+pub leastVersions : AllHold (λ (p : Version × Version). atOrAbove (p .0) (p .1)) (
     (version 1 0 4 0, version 1 0 4 0) gives true
     ∷ (version 1 0 4 1, version 1 0 4 0) gives true
     ∷ (version 1 0 3 65535, version 1 0 4 0) gives false
@@ -58,7 +58,7 @@ leastVersions = refl
 -- ---- clusters
 
 -- "a part number 1 to 4,294,967,295"
-pub partLimits : Hold partWithin (0 gives false ∷ 1 gives true ∷ 4294967295 gives true ∷ 4294967296 gives false ∷ [])
+pub partLimits : AllHold partWithin (0 gives false ∷ 1 gives true ∷ 4294967295 gives true ∷ 4294967296 gives false ∷ [])
 unfolding partWithin
 partLimits = refl
 
@@ -81,12 +81,12 @@ partLow = need 0 lowest
 abbrev leastHigh : Need
 leastHigh = need 1 tooHigh
 
-pub needLimits : Hold needWithin (fineNeed gives true ∷ partLow gives false ∷ leastHigh gives false ∷ [])
+pub needLimits : AllHold needWithin (fineNeed gives true ∷ partLow gives false ∷ leastHigh gives false ∷ [])
 unfolding versionWithin partWithin needWithin
 needLimits = refl
 
 -- "a part number .., a version, and 0 to 4 needs"
-pub clusterLimits : Hold clusterWithin (
+pub clusterLimits : AllHold clusterWithin (
     cluster 1 lowest [] gives true
     ∷ cluster 4294967295 highest (replicate 4 fineNeed) gives true
     ∷ cluster 1 lowest (replicate 5 fineNeed) gives false
@@ -113,7 +113,7 @@ abbrev pub plainTo : ℕ → Table
 plainTo n = plainFrom 1 n
 
 -- "at most 64 clusters in rising part number"
-pub tableLimits : Hold tableWithin (
+pub tableLimits : AllHold tableWithin (
     [] gives true
     ∷ plainTo 64 gives true
     ∷ plainTo 65 gives false
@@ -134,7 +134,7 @@ three = plain 10 ∷ cluster 20 lowest (fineNeed ∷ []) ∷ plain 30 ∷ []
 abbrev lookedUp : ℕ → Option Cluster × Bool × Found
 lookedUp part = (find part three, present part three, placeOf part three)
 
-pub found : Hold lookedUp (
+pub found : AllHold lookedUp (
     10 gives (some (plain 10), true, At 0)
     ∷ 20 gives (some (cluster 20 lowest (fineNeed ∷ [])), true, At 1)
     ∷ 30 gives (some (plain 30), true, At 2)
@@ -148,7 +148,7 @@ found = refl
 -- ---- needs
 
 -- "met by a table that holds that cluster at the least version or above"
-pub met : Hold (meets three) (
+pub met : AllHold (meets three) (
     need 10 (version 1 0 4 0) gives true
     ∷ need 10 (version 1 0 4 1) gives false
     ∷ need 10 lowest gives true
@@ -171,7 +171,7 @@ abbrev high : ℕ → Need
 high part = need part (version 1 0 4 1)
 
 -- all needs of all clusters are met in the whole table; "a cluster may need itself"
-pub allMet : Hold needsMet (
+pub allMet : AllHold needsMet (
     [] gives true
     ∷ pair [] [] gives true
     ∷ pair (low 20 ∷ []) (low 10 ∷ []) gives true

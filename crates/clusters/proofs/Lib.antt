@@ -7,5 +7,4 @@ pub mod Placing
 pub mod ColumnLaws
 pub mod Views
 pub mod Structs
-pub mod Cases
 pub mod Examples

@@ -1,4 +1,3 @@
-pub mod Along
 pub mod Order
 pub mod OnePackage
 pub mod TransferLimits

@@ -1,8 +1,8 @@
--- Process on the structs and in the model: its refusals are the model's, and what an accepted call gives is seen as the model's. Assumes
--- nothing.
+-- Process on the structs and in the model: what soundness says of the session, its refusals are the model's, and what an accepted call
+-- gives is seen as the model's. Assumes nothing.
 use Prim.Native.Nat.{ℕ, _≤_}
-use mathlib.Core.Path.{_≡_, refl, sym, ap, _∙_}
-use mathlib.Core.Bool.{true, false}
+use mathlib.Core.Path.{_≡_, refl, sym, ap, ap₂, _∙_}
+use mathlib.Core.Bool.{true}
 use mathlib.Core.List.{List}
 use mathlib.Core.Option.{Option, none, some}
 use native.Mathlib.Omega.{arith}
@@ -11,9 +11,9 @@ use borrow.Author.Tests.{le-leb, leb-true}
 use Rattle.base.specs.Refusals.{Refusal, firstRefusal, numberOrZero}
 use Rattle.base.specs.Counted.{counted}
 use Rattle.base.proofs.Counted.{counted-fits}
-use Rattle.base.proofs.Tests.{and-left, and-right, bool-cases, clash}
+use Rattle.base.proofs.Tests.{and-both, bool-cases, clash}
 use Rattle.actions.specs.Refusals.{actionRefusals}
-use Rattle.actions.specs.Action.{Action, actionWithin}
+use Rattle.actions.specs.Action.{Action}
 use Rattle.manifest.specs.Package.{Manifest, PackageRead, consistent, readPackage}
 use Rattle.manifest.specs.Answer.{packageRead}
 use Rattle.manifest.proofs.Within.{readPackage-within, readPackage-viewed}
@@ -21,7 +21,7 @@ use Rattle.model.specs.State as model
 use Rattle.model.specs.State.{Store}
 use Rattle.model.specs.Areas as areas
 use Rattle.model.specs.Areas.{declared, areaOf}
-use Rattle.model.specs.Sound.{packagesMost, storeSound, transfersSound, sessionSound, soundFor, sound}
+use Rattle.model.specs.Sound.{packagesMost, sessionSound, sound}
 use Rattle.model.specs.Calls.{done, process}
 use Rattle.model.specs.Step as step
 use Rattle.model.specs.Step.{manifestOf, areaRead, ownRefusals, refusals, act}
@@ -38,7 +38,7 @@ use Rattle.state.specs.declared.work.Work.{Work}
 use Rattle.state.specs.declared.state.State.{State}
 use Rattle.state.specs.declared.answer.Answer.the-variants.{Done}
 use Rattle.state.specs.declared.answer.Answered.{Answered}
-use Rattle.state.specs.View.{viewPackageState, viewPackage, viewPackages, viewTransfers, entriesMost, viewEntry, clearedEntry, viewSession, isClearedWork, viewWork, viewState}
+use Rattle.state.specs.View.{viewPackageState, viewPackages, entriesMost, viewEntry, clearedEntry, viewSession, isClearedWork, viewWork, viewState}
 use Rattle.state.specs.Exact.{inState, withPackage, state}
 use Rattle.state.specs.Outcome.{outcome, answered, viewOutcome}
 use Rattle.state.proofs.Numbers.{zero-none}
@@ -50,21 +50,19 @@ use Rattle.areas.proofs.ChangedPackage.{view-changed}
 use Rattle.process_package.specs.declared.checks.Checked.{Checked}
 use Rattle.process_package.specs.Process.{processRefusals, workBegun, checkedBy, checked, processingBegun}
 
--- ---- what soundness says of the session
+-- ---- the session of a sound state
 
 pub session-fits : (s : State) (store : Store) → sound (viewState s) store ≡ true
     → (s .session .count ≤ entriesMost) × (sessionSound (viewSession (s .session)) ≡ true)
-unfolding soundFor
+unfolding sessionSound
 session-fits s store ok =
     let facts = sound-says (viewState s) store ok in
     let room = room-for-all (s .transfers) (count-fits s store ok) in
-    let listed = facts .entries in
     let session = s .session in
     let counting = counted entriesMost clearedEntry (session .count) (session .entries) in
-    let short : length counting ≤ entriesMost = omega (arith, length-map counting viewEntry) in
-    let few = counted-fits entriesMost (session .count) clearedEntry (session .entries) in
-    let transfers = and-right (storeSound (viewPackages (s .transfers)) (length store)) _ ok in
-    (leb-true (session .count) entriesMost (sym few ∙ le-leb (length counting) entriesMost short), and-left (sessionSound (viewSession session)) _ (and-right (transfersSound (viewTransfers (s .transfers))) _ transfers))
+    let short : length counting ≤ entriesMost = omega (arith, length-map counting viewEntry, facts .entries) in
+    let few = leb-true (session .count) entriesMost (sym (counted-fits entriesMost (session .count) clearedEntry (session .entries)) ∙ le-leb _ _ short) in
+    (few, and-both _ _ (facts .beginning) (and-both _ _ (facts .within) (facts .turn)))
 
 -- ---- what is kept
 
@@ -147,10 +145,8 @@ module _ (s : State) (store : Store) (id : ℕ) where
       let read = read-consistent h in
       let m = manifestOf (areaRead (viewState s) store id) in
       let transfers = view-changed (s .transfers) few long id (inState packageState.Processing) (areas.inState model.beingProcessed) (λ p. refl) in
-      let t = step.withPackages (areas.changed id (areas.inState model.beingProcessed) (viewPackages (s .transfers))) (viewTransfers (s .transfers)) in
       let work = ap (λ (p : PackageRead). viewWork (workBegun (packageRead p))) read ∙ view-work-begun (areaOf id (viewPackages (s .transfers)) store) m read in
-      ap (λ (t : model.Transfers). step.outcome done (model.state model.processing t (viewSession (s .session)) (viewWork (workBegun (packageRead (areaRead (viewState s) store id))))) store) transfers
-      ∙ ap (λ (w : Option model.Work). step.outcome done (model.state model.processing t (viewSession (s .session)) w) store) work
+      ap₂ (λ (t : model.Transfers) (w : Option model.Work). step.outcome done (model.state model.processing t (viewSession (s .session)) w) store) transfers work
 
 -- ---- what an accepted call gives, by its parts
 

@@ -11,7 +11,7 @@ use Rattle.model.specs.State.{isProcessing}
 use Rattle.model.specs.Sound.{packagesMost}
 use Rattle.model.specs.Step.{ownRefusals}
 use Rattle.state.specs.View.{viewPhase}
-use Rattle.state.proofs.Ways.{ways, pass-permitted, refuse-number, accept}
+use Rattle.state.proofs.Ways.{ways}
 use Rattle.areas.proofs.FoundPackage.{count-fits, nothing-unknown, FoundAt, found-at}
 use Rattle.process_package.proofs.ProcessLaws.{session-fits, checks-number, checks-pass, begun-at}
 use Rattle.process_package.proofs.process_on_sound.Statement.{statement}
@@ -79,26 +79,16 @@ refused-requires-4 c κs = search needs
 
 returns-4 : tie.Need-returns-4
 returns-4 c =
-    let m = c .before .before in
-    let k = m .before .before .before in
-    let p = k .before .before .before .before .before .before in
-    let a = p .before .before .before .before .args in
-    pass-permitted _ _ _ _ _ (free (p .before)) (p .allowed .ensures) _ (k .before .before .before .before .before .if2 .left)
-    (refuse-number _ _ _ _ _ _ (checks-number (a .s) (a .store .now) (a .id) _ (found k) _ (m .check-package .ensures)) (c .before .if3 .taken) (c .refused4 .ensures))
+    let k = c .before .before .before .before .before in
+    search (ways, free (k .before .before .before .before .before .before .before), checks-number, found k)
 
 begin-processing-requires : tie.Need-begin-processing-requires
 begin-processing-requires c κs = let h = found (c .before .before .before .before .before) in search needs
 
 returns-5 : tie.Need-returns-5
 returns-5 c =
-    let m = c .before .before .before in
-    let k = m .before .before .before in
-    let p = k .before .before .before .before .before .before in
-    let a = p .before .before .before .before .args in
-    let zero = c .before .before .if3 .left in
-    pass-permitted _ _ _ _ _ (free (p .before)) (p .allowed .ensures) _ (k .before .before .before .before .before .if2 .left)
-    (accept _ _ _ _ _ (checks-pass (a .s) (a .store .now) (a .id) _ (found k) _ (m .check-package .ensures) zero)
-    (begun-at (a .s) (a .store .now) (a .id) _ (found k) _ (m .check-package .ensures) zero _ (c .begin-processing .ensures)))
+    let k = c .before .before .before .before .before .before in
+    search (ways, free (k .before .before .before .before .before .before .before), checks-pass, begun-at, found k)
 
 pub process-on-sound-spec : {M : Type 1} → statement M
 process-on-sound-spec =

@@ -1,7 +1,5 @@
 -- `process_package::checks::begun_work` meets its contract: the values that were read, and the sums at their start. Assumes nothing.
 use borrow.Author.Needs.{needs}
-use mathlib.Core.Path.{ap}
-use Rattle.checksum.specs.declared.Sums.{Sums}
 use Rattle.process_package.proofs.checks.begun_work.Statement.{statement}
 use Rattle.process_package.proofs.checks.begun_work.Tie as tie
 

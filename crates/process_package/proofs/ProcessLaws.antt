@@ -24,7 +24,7 @@ use Rattle.model.specs.Areas.{declared, areaOf}
 use Rattle.model.specs.Sound.{packagesMost, sessionSound, sound}
 use Rattle.model.specs.Calls.{done, process}
 use Rattle.model.specs.Step as step
-use Rattle.model.specs.Step.{manifestOf, areaRead, ownRefusals, refusals, act}
+use Rattle.model.specs.Step.{manifestOf, areaRead, ownRefusals, refusals, act, processRefusals}
 use Rattle.model.proofs.soundness.Accepted.{first-passed, rest-passed, passed-over, accepted-sound, accepted-own, read-is}
 use Rattle.model.proofs.soundness.Packages.{found-known, found-is}
 use Rattle.model.proofs.soundness.SoundFacts.{sound-says}
@@ -48,7 +48,7 @@ use Rattle.areas.specs.Changed.{packageAt, withChanged}
 use Rattle.areas.proofs.FoundPackage.{count-fits, FoundAt}
 use Rattle.areas.proofs.ChangedPackage.{view-changed}
 use Rattle.process_package.specs.declared.checks.Checked.{Checked}
-use Rattle.process_package.specs.Process.{processRefusals, workBegun, checkedBy, checked, processingBegun}
+use Rattle.process_package.specs.Process.{workBegun, checkedBy, checked, processingBegun}
 
 -- ---- the session of a sound state
 
@@ -95,7 +95,7 @@ module _ (s : State) (store : Store) (id : ℕ) where
 
     -- its refusals are the model's
     process-own : firstRefusal (ownRefusals (viewState s) store (process id)) ≡ firstRefusal own
-    unfolding processRefusals ownRefusals
+    unfolding ownRefusals
     process-own =
         let ps = viewPackages (s .transfers) in
         passed-over _ _ (found-known id ps _ (found .known))
@@ -109,7 +109,7 @@ module _ (s : State) (store : Store) (id : ℕ) where
 
     module _ (zero : c .number ≡ 0) where
       none-applies : firstRefusal own ≡ none
-      unfolding processRefusals actionRefusals
+      unfolding actionRefusals
       none-applies = zero-none own refl (sym zero ∙ number)
 
       pub checks-pass : firstRefusal (ownRefusals (viewState s) store (process id)) ≡ none

@@ -8,15 +8,15 @@ use Rattle.model.specs.Step.{taken, bytesTaken}
 use Rattle.state.specs.declared.work.Work.{Work}
 use Rattle.state.specs.View.{keptWork}
 
--- "takes the next n payload bytes, or what is left, into the sum": the kept values then, with the bytes of the area
+-- "takes the next n payload bytes, or what is left, into the sum": the kept values then, where the given bytes begin with the package's area
 abbrev pub workOn : Work → ℕ → List ℕ → Work
-workOn w n area =
+workOn w n bytes =
     record {
       action = w .action;
       start = w .start;
       count = w .count;
       sum = w .sum;
-      «running_sums» = continued (w .«running_sums») (bytesTaken (keptWork w) n area);
+      «running_sums» = continued (w .«running_sums») (bytesTaken (keptWork w) n bytes);
       done = w .done + taken (keptWork w) n;
       «cancel_noted» = w .«cancel_noted»;
     }

@@ -35,7 +35,7 @@ workedAt s store i n =
     (ended (s .transfers) i Transferred (s .session) Cancelled)
     (workedTo s i (workOn (s .work) n (drop (areaAt s i) store)))
 
--- "Work(n), n of 32 bits": at the place of the package that is processing
+-- "Work(n), n of 32 bits", at the place of the package that is processing. The store stays as it is
 abbrev pub worked : State → Store → ℕ → Outcome
 worked s store n = outcome (workedAt s store (processingPlace (viewPackages (s .transfers))) n) store
 

@@ -63,13 +63,8 @@ pub fn compare_sum(t: Transfers, i: usize, session: Session, w: Work) -> Answere
 {
     let sums = w.running_sums;
     if checksum::number(sums) != w.sum {
-        return end_processing(
-            t,
-            i,
-            PackageState::Transferred,
-            session,
-            Answer::Inconsistent,
-        );
+        let state = PackageState::Transferred;
+        return end_processing(t, i, state, session, Answer::Inconsistent);
     }
     let p = t.packages[i];
     let action = w.action;

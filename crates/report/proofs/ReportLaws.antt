@@ -19,11 +19,11 @@ use Rattle.clusters.specs.View.{viewTable}
 use Rattle.actions.specs.Action.{actionsWithin}
 use Rattle.actions.proofs.Limits.{apply-all-within}
 use Rattle.model.specs.State.{Store, actions}
-use Rattle.model.specs.Areas.{declared, deleted}
+use Rattle.model.specs.Areas.{deleted}
 use Rattle.model.specs.Tables as tables
 use Rattle.model.specs.Calls.{report}
 use Rattle.model.specs.Permissions.{allowed}
-use Rattle.model.specs.Sound.{packagesMost, sessionSound, sound}
+use Rattle.model.specs.Sound.{sessionSound, sound}
 use Rattle.model.specs.Step as step
 use Rattle.model.specs.Step.{activatingPhase, activatingAnswer, movesTo, refusals, act}
 use Rattle.model.proofs.soundness.Accepted.{accepted-sound, accepted-allowed}
@@ -49,7 +49,7 @@ use Rattle.areas.proofs.FoundPackage.{count-fits, areas-fit}
 use Rattle.areas.proofs.Kept.{view-remaining}
 use Rattle.staging.specs.Staged.{stagedTable, runningTable}
 use Rattle.staging.proofs.StagedViews.{view-staged, view-running}
-use Rattle.report.specs.Reported.{activatingReported, cleanedUp, failedPhase, reported}
+use Rattle.report.specs.Reported.{CleanUpFits, activatingReported, cleanedUp, failedPhase, reported}
 
 -- ---- what a sound state meets
 
@@ -67,8 +67,8 @@ module _ (s : State) (store : Store) (ok : sound (viewState s) store ≡ true) w
         and-both _ _ (facts .beginning) (and-both _ _ (facts .within) (facts .turn)),
       )
 
-  pub parts-fit : (s .transfers .count ≤ packagesMost) × (declared (viewPackages (s .transfers)) ≤ length store) × (s .session .count ≤ entriesMost)
-  parts-fit = let fit = areas-fit s store ok in (fit .0, fit .1, session-fits .0)
+  pub clean-up-fits : CleanUpFits s (length store)
+  clean-up-fits = let fit = areas-fit s store ok in record { packages = fit .0; areas = fit .1; entries = session-fits .0 }
 
 -- the staged table is within the limits
 pub staged-within : (session : Session) → session .count ≤ entriesMost → length (session .beginning .clusters) ≡ clustersMost

@@ -1,9 +1,11 @@
 -- Report on the code's structs, in each manager's state.
+use Prim.Native.Nat.{ℕ, _≤_}
 use mathlib.Core.Bool.{Bool, cond}
 use Rattle.clusters.specs.Table.{needsMet}
 use Rattle.clusters.specs.View.{viewTable}
 use Rattle.model.specs.State.{Store}
-use Rattle.model.specs.Areas.{deleted}
+use Rattle.model.specs.Areas.{declared, deleted}
+use Rattle.model.specs.Sound.{packagesMost}
 use Rattle.state.specs.declared.phase.RollbackOrigin.{RollbackOrigin}
 use Rattle.state.specs.declared.phase.RollbackOrigin.the-variants as rollback
 use Rattle.state.specs.declared.phase.CleanUpOrigin.{CleanUpOrigin}
@@ -14,12 +16,19 @@ use Rattle.state.specs.declared.state.State.{State}
 use Rattle.state.specs.declared.answer.Answer.{Answer}
 use Rattle.state.specs.declared.answer.Answer.the-variants.{Done, PreActivationFailed, MissingDependencies, VerificationFailed, NotAbleToRollback, NotAbleToRevert, CleaningFailed}
 use Rattle.state.specs.declared.answer.Answered.{Answered}
-use Rattle.state.specs.View.{viewPackages}
+use Rattle.state.specs.View.{viewPackages, entriesMost}
 use Rattle.state.specs.Exact.{newSession, state, inPhase}
 use Rattle.state.specs.Outcome.{Outcome, outcome, answered, refusedBy}
 use Rattle.areas.specs.declared.deletion.Deletion.the-variants.{AllProcessed}
 use Rattle.areas.specs.Deletion.{keeps, remainingTransfers}
 use Rattle.staging.specs.Staged.{stagedTable, runningTable}
+
+-- what a clean-up asks of the state with a store of a length; soundness has it: "At most 16 packages.", "areas fit the store", and the
+-- entries have room
+pub record CleanUpFits (s : State) (storeLength : ℕ) : Type 0 where
+  pub packages : s .transfers .count ≤ packagesMost
+  pub areas : declared (viewPackages (s .transfers)) ≤ storeLength
+  pub entries : s .session .count ≤ entriesMost
 
 -- "Activating: bad gives Ready, PreActivationFailed. Good gives Ready, MissingDependencies, if some need of some cluster isn't met in
 -- the staged table; else Verifying.": by good, and by whether the needs are met

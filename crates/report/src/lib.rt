@@ -26,14 +26,13 @@ ghost use Prim.Native.Nat.{_≤_};
 ghost use lib.ListN.{length};
 ghost use Rattle.clusters.specs.Table.{needsMet};
 ghost use Rattle.clusters.specs.View.{viewTable};
-ghost use Rattle.model.specs.Areas.{declared};
 ghost use Rattle.model.specs.Calls.{report};
-ghost use Rattle.model.specs.Sound.{packagesMost, sessionSound, soundFor};
+ghost use Rattle.model.specs.Sound.{sessionSound, soundFor};
 ghost use Rattle.model.specs.Step.{step};
-ghost use Rattle.state.specs.View.{viewPackages, entriesMost, viewSession, viewState};
+ghost use Rattle.state.specs.View.{entriesMost, viewSession, viewState};
 ghost use Rattle.state.specs.Outcome.{outcome, viewOutcome, SoundIfAccepted, called, calledOnSound};
 ghost use Rattle.staging.specs.Staged.{stagedTable};
-ghost use Rattle.report.specs.Reported.{activatingReported, verifyingReported, rollbackPhase, rollingBackReported, cleanedUp, failedAnswer, failedPhase, cleaningUpReported, reported};
+ghost use Rattle.report.specs.Reported.{CleanUpFits, activatingReported, verifyingReported, rollbackPhase, rollingBackReported, cleanedUp, failedAnswer, failedPhase, cleaningUpReported, reported};
 
 // In Activating, by the report and by whether all needs are met in the staged table.
 fn answer_activating(s: State, good: bool, met: bool) -> Answered
@@ -94,7 +93,7 @@ fn report_rolling_back(s: State, origin: RollbackOrigin, good: bool) -> Answered
 // A clean-up that was good: Idle, without the Processed packages, and the running table begins the next session. A sound state
 // meets what is required.
 fn clean_up(s: State, store: &mut [u8], origin: CleanUpOrigin) -> Answered
-    requires { ⌜ (s .transfers .count ≤ packagesMost) × (declared (viewPackages (s .transfers)) ≤ length (now store)) × (s .session .count ≤ entriesMost) ⌝ }
+    requires { ⌜ CleanUpFits s (length (now store)) ⌝ }
     ensures { λ r. ⌜ outcome r (now (store .exit)) ≡ cleanedUp s (now (store .entry)) origin ⌝ }
 {
     let session = s.session;
@@ -137,7 +136,7 @@ fn failed_phase(origin: CleanUpOrigin) -> Phase
 
 // In CleaningUp. A sound state meets what is required.
 fn report_cleaning_up(s: State, store: &mut [u8], origin: CleanUpOrigin, good: bool) -> Answered
-    requires { ⌜ (s .transfers .count ≤ packagesMost) × (declared (viewPackages (s .transfers)) ≤ length (now store)) × (s .session .count ≤ entriesMost) ⌝ }
+    requires { ⌜ CleanUpFits s (length (now store)) ⌝ }
     ensures { λ r. ⌜ outcome r (now (store .exit)) ≡ cleaningUpReported s (now (store .entry)) origin good ⌝ }
 {
     if good {

@@ -1,7 +1,7 @@
 -- `report::report_in` meets its contract: a case for each manager's state. Assumes nothing.
 use borrow.Author.Needs.{needs}
 use Rattle.report.specs.Reported.{reported}
-use Rattle.report.proofs.ReportLaws.{session-fits, parts-fit, give-in, give-answered}
+use Rattle.report.proofs.ReportLaws.{session-fits, clean-up-fits, give-in, give-answered}
 use Rattle.report.proofs.report_in.Statement.{statement}
 use Rattle.report.proofs.report_in.Tie as tie
 
@@ -27,7 +27,7 @@ enum-known-phase-2 : tie.Need-enum-known-phase-2
 enum-known-phase-2 c = search needs
 
 report-cleaning-up-requires : tie.Need-report-cleaning-up-requires
-report-cleaning-up-requires c κs = search parts-fit
+report-cleaning-up-requires c κs = search clean-up-fits
 
 enum-told-3 : tie.Need-enum-told-3
 enum-told-3 c = search needs

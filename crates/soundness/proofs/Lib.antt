@@ -7,3 +7,4 @@ pub mod Listing
 pub mod ListParts
 pub mod KeptParts
 pub mod Whole
+pub mod SoundSession

@@ -18,7 +18,7 @@ use Rattle.model.proofs.reading.Buffers.{report-short, report-fits}
 use Rattle.state.specs.declared.state.State.{State}
 use Rattle.state.specs.View.{viewPackage, viewPackages, viewState}
 use Rattle.state.proofs.Views.{packages-few}
-use Rattle.areas.proofs.Along.{packages-length}
+use Rattle.state.proofs.PackagesAlong.{packages-length}
 use Rattle.areas.proofs.FirstPlaces.{take-first}
 use Rattle.areas.proofs.FoundPackage.{count-fits}
 use Rattle.package_records.specs.declared.Record.{Record}
@@ -140,9 +140,10 @@ module _ (s : State) (long : length (s .transfers .packages) ≡ packagesMost) (
       let reply = packagesReply (viewState s) store (length xs) in
       let told : replyOf r ≡ reply = ap replyOf (f ∙ ap (λ (x : PackagesReport). x .answer) e) ∙ answered reply in
       let list : zs ≡ reportBuffer reply (listed s) xs = g ∙ ap (λ (x : PackagesReport). filledFrom (x .written) xs) e ∙ filled reply (fits store) in
-      let with : ReadingReply → List PackageRecord → Report PackageRecord = λ a l. record { reply = a; buffer = l } in
-      (ap (λ (l : List Record). with (replyOf r) (viewList l)) list
-      ∙ ap (λ (a : ReadingReply). with a (viewList (reportBuffer reply (listed s) xs))) told
-      ∙ ap (with reply) (viewed reply (fits store))
-      ∙ ap (λ (n : ℕ). let a = reportReply (viewState s) store (length (packageRecords (viewState s))) n in with a (reportBuffer a (packageRecords (viewState s)) (viewList xs))) (sym (length-map xs viewRecord)),
-      list ∙ ap (λ (a : ReadingReply). reportBuffer a (listed s) xs) (sym told))
+      let with : ReadingReply → List PackageRecord → Report PackageRecord = λ a l. record { reply = a; buffer = l } in (
+        ap (λ (l : List Record). with (replyOf r) (viewList l)) list
+            ∙ ap (λ (a : ReadingReply). with a (viewList (reportBuffer reply (listed s) xs))) told
+            ∙ ap (with reply) (viewed reply (fits store))
+            ∙ ap (λ (n : ℕ). let a = reportReply (viewState s) store (length (packageRecords (viewState s))) n in with a (reportBuffer a (packageRecords (viewState s)) (viewList xs))) (sym (length-map xs viewRecord)),
+        list ∙ ap (λ (a : ReadingReply). reportBuffer a (listed s) xs) (sym told),
+      )

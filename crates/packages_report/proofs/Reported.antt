@@ -88,12 +88,12 @@ none-copied xs = rw (le-ltb (length xs) 0 (omega arith))
 
 module _ (s : State) (long : length (s .transfers .packages) ≡ packagesMost) (xs : List Record) where
   -- what is written where the reply gives a number of records
-  Fits : ReadingReply → Type 0
+  unfoldable pub Fits : ReadingReply → Type 0
   Fits (refusedBy number) = Unit {0}
   Fits (shortBuffer number) = Unit {0}
   Fits (given count) = (s .transfers .count ≤ packagesMost) × (count ≡ s .transfers .count) × (count ≤ length xs)
 
-  fits : (store : Store) → Fits (packagesReply (viewState s) store (length xs))
+  pub fits : (store : Store) → Fits (packagesReply (viewState s) store (length xs))
   unfolding packagesReply Fits
   fits store =
       bool-cases (sound (viewState s) store)
@@ -140,9 +140,10 @@ module _ (s : State) (long : length (s .transfers .packages) ≡ packagesMost) (
       let reply = packagesReply (viewState s) store (length xs) in
       let told : replyOf r ≡ reply = ap replyOf (f ∙ ap (λ (x : PackagesReport). x .answer) e) ∙ answered reply in
       let list : zs ≡ reportBuffer reply (listed s) xs = g ∙ ap (λ (x : PackagesReport). filledFrom (x .written) xs) e ∙ filled reply (fits store) in
-      let with : ReadingReply → List PackageRecord → Report PackageRecord = λ a l. record { reply = a; buffer = l } in
-      (ap (λ (l : List Record). with (replyOf r) (viewList l)) list
-      ∙ ap (λ (a : ReadingReply). with a (viewList (reportBuffer reply (listed s) xs))) told
-      ∙ ap (with reply) (viewed reply (fits store))
-      ∙ ap (λ (n : ℕ). let a = reportReply (viewState s) store (length (packageRecords (viewState s))) n in with a (reportBuffer a (packageRecords (viewState s)) (viewList xs))) (sym (length-map xs viewRecord)),
-      list ∙ ap (λ (a : ReadingReply). reportBuffer a (listed s) xs) (sym told))
+      let with : ReadingReply → List PackageRecord → Report PackageRecord = λ a l. record { reply = a; buffer = l } in (
+        ap (λ (l : List Record). with (replyOf r) (viewList l)) list
+            ∙ ap (λ (a : ReadingReply). with a (viewList (reportBuffer reply (listed s) xs))) told
+            ∙ ap (with reply) (viewed reply (fits store))
+            ∙ ap (λ (n : ℕ). let a = reportReply (viewState s) store (length (packageRecords (viewState s))) n in with a (reportBuffer a (packageRecords (viewState s)) (viewList xs))) (sym (length-map xs viewRecord)),
+        list ∙ ap (λ (a : ReadingReply). reportBuffer a (listed s) xs) (sym told),
+      )

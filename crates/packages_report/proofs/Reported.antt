@@ -88,12 +88,12 @@ none-copied xs = rw (le-ltb (length xs) 0 (omega arith))
 
 module _ (s : State) (long : length (s .transfers .packages) ≡ packagesMost) (xs : List Record) where
   -- what is written where the reply gives a number of records
-  Fits : ReadingReply → Type 0
+  unfoldable pub Fits : ReadingReply → Type 0
   Fits (refusedBy number) = Unit {0}
   Fits (shortBuffer number) = Unit {0}
   Fits (given count) = (s .transfers .count ≤ packagesMost) × (count ≡ s .transfers .count) × (count ≤ length xs)
 
-  fits : (store : Store) → Fits (packagesReply (viewState s) store (length xs))
+  pub fits : (store : Store) → Fits (packagesReply (viewState s) store (length xs))
   unfolding packagesReply Fits
   fits store =
       bool-cases (sound (viewState s) store)

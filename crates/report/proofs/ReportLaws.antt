@@ -106,8 +106,9 @@ module _ (s : State) (store : Store) where
       ≡ step.cleanedUp (viewState s) store (tables.runningIn (viewPhase (CleaningUp origin)) (viewSession (s .session)))
   unfolding step.cleanedUp
   view-cleaned ok long origin =
-      let fits = (session-fits s store ok, session-sound s store ok) in
-      rw (view-remaining AllProcessed (s .transfers) (count-fits s store ok), view-running (s .session) (fits .0) long (fits .1) (CleaningUp origin))
+      let few = session-fits s store ok in
+      let fine = session-sound s store ok in
+      rw (view-remaining AllProcessed (s .transfers) (count-fits s store ok), view-running (s .session) few long fine (CleaningUp origin))
 
   -- a case for each row
   view-row : sound (viewState s) store ≡ true → length (s .session .beginning .clusters) ≡ clustersMost
@@ -115,9 +116,10 @@ module _ (s : State) (store : Store) where
       → viewOutcome (reported s store phase good) ≡ step.reported (viewState s) store (viewPhase phase) good
   unfolding reported step.reported allowed tables.runningIn
   view-row ok long Activating good h =
-      let fits = (session-fits s store ok, session-sound s store ok) in
+      let few = session-fits s store ok in
+      let fine = session-sound s store ok in
       view-activating good _
-      ∙ ap (λ (t : plain.Table). movesTo (viewState s) store (activatingPhase good (needsMet t)) (activatingAnswer good (needsMet t))) (view-staged (s .session) (fits .0) long (fits .1))
+      ∙ ap (λ (t : plain.Table). movesTo (viewState s) store (activatingPhase good (needsMet t)) (activatingAnswer good (needsMet t))) (view-staged (s .session) few long fine)
   view-row ok long Verifying true h = refl
   view-row ok long Verifying false h = refl
   view-row ok long (RollingBack origin) true h = refl

@@ -1,14 +1,10 @@
--- The line of an action, put part by part: its word, how long it is, the room that each part has, and what they leave together. Assumes
--- nothing.
-use Prim.Native.Nat.{ℕ, _+_, _≤_, _<_}
-use mathlib.Core.Path.{_≡_, refl, sym, ap, _∙_}
+-- The line of an action by its parts: the part number, the word, the comma between them and the LF. Assumes nothing.
+use Prim.Native.Nat.{ℕ}
+use mathlib.Core.Path.{_≡_, refl, ap}
 use mathlib.Core.List.{List, [], _∷_, _++_}
-use native.Mathlib.Omega.{arith}
-use lib.ListN.{length, length-append, set, length-set}
 use Rattle.base.specs.Quoted.{comma, LF}
 use Rattle.text.specs.Digits.{digits}
-use Rattle.text.specs.Put.{Put}
-use Rattle.text.proofs.PutLaws.{put-length, put-then, put-cons, put-last}
+use Rattle.text.proofs.PutPair.{Pair}
 use Rattle.rows.specs.Line.{lineText}
 use Rattle.clusters.specs.Cluster.{Cluster}
 use Rattle.clusters.specs.View.{viewCluster}
@@ -26,51 +22,14 @@ part-is Update c = refl
 part-is Remove c = refl
 
 module _ (a : Action) where
-  abbrev part : List ℕ
-  part = digits (a .cluster .part)
-
   abbrev word : List ℕ
   word = changeWord (viewAction a)
 
-  -- ---- the word
+  pub line-pair : Pair (changeLine (viewAction a)) (digits (a .cluster .part)) comma word LF
+  unfolding lineText
+  line-pair =
+      record { parts = ap (λ (n : ℕ). digits n ++ (comma ∷ (word ++ LF ∷ []))) (part-is (a .change) (viewCluster (a .cluster))) }
 
   -- by the change that a match found
   pub word-is : (change : Change) → a .change ≡ change → word ≡ changeWord (actionOf change (viewCluster (a .cluster)))
   word-is change e = ap (λ (is : Change). changeWord (actionOf is (viewCluster (a .cluster)))) e
-
-  -- ---- the line
-
-  line-parts : changeLine (viewAction a) ≡ part ++ (comma ∷ (word ++ LF ∷ []))
-  unfolding lineText
-  line-parts = ap (λ (n : ℕ). digits n ++ (comma ∷ (word ++ LF ∷ []))) (part-is (a .change) (viewCluster (a .cluster)))
-
-  pub line-length : length (changeLine (viewAction a)) ≡ length part + length word + 2
-  line-length = rw line-parts (simp length-append (omega arith))
-
-  module _ (l : List ℕ) (at : ℕ) (o : at + length (changeLine (viewAction a)) ≤ length l) where
-    pub room-part : at + length part ≤ length l
-    room-part = omega (arith, line-length)
-
-    module _ (m : List ℕ) (p : ℕ) (f : Put l at part p m) where
-      pub room-comma : p < length m
-      room-comma = omega (arith, line-length, put-length l at part m p f)
-
-      pub room-word : p + 1 + length word ≤ length (set m p comma)
-      room-word = simp length-set (omega (arith, line-length, put-length l at part m p f))
-
-      module _ (k : List ℕ) (q : ℕ) (g : Put (set m p comma) (p + 1) word q k) where
-        pub room-LF : q < length k
-        room-LF =
-            omega (
-              arith,
-              line-length,
-              put-length l at part m p f,
-              put-length (set m p comma) (p + 1) word k q g,
-              length-set m p comma,
-            )
-
-        pub line-put : Put l at (changeLine (viewAction a)) (q + 1) (set k q LF)
-        line-put =
-            rw line-parts
-            (put-then l at part (comma ∷ (word ++ (LF ∷ []))) m (set k q LF) p (q + 1) f
-            (put-cons m p comma (word ++ (LF ∷ [])) (set k q LF) (q + 1) (put-last (set m p comma) (p + 1) word k q LF g)))

@@ -1,7 +1,7 @@
 -- The lines of the listed actions as the code goes along them: what is left of them behind i entries. The whole text is the model's
 -- ChangeInfo of a state with the session, and no longer than that is. Assumes nothing.
 use Prim.Native.Nat.{ℕ, _+_, _≤_, _<_}
-use mathlib.Core.Path.{_≡_, refl, sym, ap, _∙_}
+use mathlib.Core.Path.{_≡_, refl, ap, _∙_}
 use mathlib.Core.Bool.{true}
 use mathlib.Core.List.{List, [], _++_, map, map-map}
 use native.Mathlib.Omega.{arith}

@@ -4,7 +4,6 @@ use actions::action::Change;
 use state::session::Session;
 use text::write::put_bytes;
 use text::write::put_number;
-ghost use mathlib.Core.Path.{_≡_};
 ghost use Prim.Native.Nat.{_+_, _≤_};
 ghost use lib.ListN.{length};
 ghost use Rattle.text.specs.Put.{Put};

@@ -3,9 +3,7 @@
 use Prim.Native.Nat.{ℕ}
 use mathlib.Core.Path.{_≡_, ap, _∙_}
 use mathlib.Core.List.{List}
-use lib.ListN.{length, take}
 use Rattle.model.specs.State.{State, Store}
-use Rattle.model.specs.Step.{Outcome}
 use Rattle.model.specs.Load.{load}
 use Rattle.model.specs.Reading.{clusterInfo, clusterInfoReport}
 use Rattle.model.proofs.Claims.{cluster-info-loads-back}

@@ -3,11 +3,11 @@
 use Prim.Native.Nat.{ℕ, _+_, _≤_, _<_}
 use mathlib.Core.Path.{_≡_, refl, sym, ap, _∙_}
 use mathlib.Core.Bool.{Bool, true, false, not}
-use mathlib.Core.List.{List, [], _∷_, _++_}
+use mathlib.Core.List.{List, _++_}
 use native.Mathlib.Omega.{arith}
 use native.Mathlib.Nat.{zero-add}
 use lib.ListN.{length, take, drop}
-use lib.Seq.{sets, sets-eq}
+use lib.Seq.{sets-eq}
 use lib.Dec.{ltb}
 use borrow.Author.Tests.{lt-ltb, le-ltb, ltb-true, ltb-false}
 use Rattle.base.specs.Refusals.{firstRefusal}
@@ -18,7 +18,7 @@ use Rattle.model.specs.State.{State, Store}
 use Rattle.model.specs.Sound.{sound}
 use Rattle.model.specs.Reading as model
 use Rattle.model.specs.Reading.{Report, shortBuffer, given, replyNumber, furtherReportRefusals, reportReply, reportBuffer, reportOf}
-use Rattle.model.proofs.reading.Buffers.{report-short, report-fits, written-first}
+use Rattle.model.proofs.reading.Buffers.{report-short, report-fits, refused-leaves, written-first, written-behind}
 use Rattle.model.proofs.reading.Replies.{report-decided, report-unsound}
 use Rattle.reading_reply.specs.declared.ReadingReply.{ReadingReply}
 use Rattle.reading_reply.specs.declared.ReadingReply.the-variants.{Refused, ShortBuffer, Given}
@@ -68,7 +68,7 @@ module _ {A : Type 0} (s : State) (store : Store) (content old : List A) (b : Bo
   unfolding reportOf reportReply reportOnSound replyOnSound
   pass-sound-report r h e = rw (e, report-decided s store (length content) (length old) (told-yes b _ told h))
 
--- ---- what a count that was given says
+-- ---- what a report's equation says of the buffer
 
 reply-apart : {X : Type 0} (a b : model.ReadingReply) → a ≡ b → replyNumber a ≡ 0 → (replyNumber b ≡ 0 → ⊥) → X
 reply-apart a b e z n = absurd (n (ap replyNumber (sym e) ∙ z))
@@ -77,11 +77,13 @@ same-count : (a b : ℕ) → given a ≡ given b → a ≡ b
 same-count a b e = cc
 
 module _ {A : Type 0} (s : State) (store : Store) (content old : List A) where
-  -- the state is sound, the count is the content's length, and the first so many of the buffer are the content
+  -- the state is sound, the count is the content's length, the first so many of the buffer are the content, and those behind keep their
+  -- values
   pub record GivenReport (count : ℕ) (new : List A) : Type 0 where
     pub isSound : sound s store ≡ true
     pub counted : count ≡ length content
     pub first : take count new ≡ content
+    pub behind : drop count new ≡ drop count old
 
   given-is : (count : ℕ) → given count ≡ reportReply s store (length content) (length old) → (sound s store ≡ true) × (count ≡ length content)
   given-is count e =
@@ -103,6 +105,15 @@ module _ {A : Type 0} (s : State) (store : Store) (content old : List A) where
         isSound = is .0;
         counted = is .1;
         first = rw (is .1, buffer) (written-first content old);
+        behind = rw (is .1, buffer) (written-behind content old);
       }
+
+  -- a refusal leaves the buffer as it was
+  pub refused-keeps : (r : ReadingReply) (new : List A) → reported r new ≡ reportOf s store content old → 1 ≤ replyNumber (replyOf r)
+      → new ≡ old
+  unfolding reportOf
+  refused-keeps r new e h =
+      let reply : reportReply s store (length content) (length old) ≡ replyOf r = sym (ap (λ (z : Report A). z .reply) e) in
+      ap (λ (z : Report A). z .buffer) e ∙ refused-leaves content old _ (rw reply h)
 
 pub ruleset reports = (short-report, put-report, refuse-unsound-report, pass-sound-report)

@@ -2,7 +2,8 @@
 use Prim.Native.Nat.{_≤_}
 use native.Mathlib.Omega.{arith}
 use Rattle.text.proofs.DigitLaws.{few-digits}
-use Rattle.change_info.proofs.LineParts.{line-length}
+use Rattle.text.proofs.PutPair.{pair-length}
+use Rattle.change_info.proofs.LineParts.{line-pair}
 use borrow.Author.Needs.{needs}
 use Rattle.change_info.proofs.length.change_length.Statement.{statement}
 use Rattle.change_info.proofs.length.change_length.Tie as tie
@@ -23,7 +24,7 @@ add-result-2 : tie.Need-add-result-2
 add-result-2 c = omega (arith, part-short c, c .word-length .ensures .1)
 
 returns : tie.Need-returns
-returns c = omega (arith, line-length (c .before .before .before .args .a), c .before .number-length .ensures, c .word-length .ensures .0)
+returns c = omega (arith, pair-length (line-pair (c .before .before .before .args .a)), c .before .number-length .ensures, c .word-length .ensures .0)
 
 pub change-length-spec : {M : Type 1} → statement M
 change-length-spec =

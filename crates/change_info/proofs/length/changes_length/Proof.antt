@@ -1,6 +1,6 @@
 -- `change_info::length::changes_length` meets its contract. The loop's invariant: the total and the length of the lines of the entries
 -- from i on make the length of the text. The measure is what is left of the entries. Assumes nothing.
-use Prim.Native.Nat.{_+_, _-_, _≤_}
+use Prim.Native.Nat.{_+_, _-_}
 use native.Mathlib.Omega.{arith}
 use mathlib.Core.Path.{_≡_, ap}
 use lib.ListN.{length, drop, getD}

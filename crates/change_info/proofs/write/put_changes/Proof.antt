@@ -1,6 +1,6 @@
 -- `change_info::write::put_changes` meets its contract. The loop's invariant: with the lines of the entries from i on put at `at`, the
 -- whole text stands. The measure is what is left of the entries. Assumes nothing.
-use Prim.Native.Nat.{_+_, _-_, _≤_}
+use Prim.Native.Nat.{_+_, _-_}
 use native.Mathlib.Omega.{arith}
 use mathlib.Core.Path.{_≡_}
 use mathlib.Core.List.{_++_}

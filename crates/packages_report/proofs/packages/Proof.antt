@@ -52,7 +52,6 @@ use Rattle.state.proofs.transfers.Transfers.Laws as N′
 use Rattle.package_records.specs.declared.Record.{Record}
 use Rattle.package_records.specs.Records.{recordsOf}
 use Rattle.package_records.proofs.Record as R
-use Rattle.package_records.proofs.Record.Laws as R′
 use Rattle.report_answer.specs.declared.ReportAnswer.{ReportAnswer}
 use Rattle.report_answer.specs.Reply.{replyOf}
 use Rattle.report_answer.proofs.ReportAnswer as S

@@ -1,7 +1,7 @@
 -- What Packages answers and leaves in the list, from the report by value. Assumes nothing.
 use Prim.Native.Nat.{ℕ, _≤_, _<_}
 use mathlib.Core.Path.{_≡_, refl, sym, ap, _∙_}
-use mathlib.Core.Bool.{Bool, true, false, cond}
+use mathlib.Core.Bool.{true, false}
 use mathlib.Core.List.{List, _++_, map, map-map, map-append}
 use native.Mathlib.Omega.{arith}
 use lib.Dec.{ltb}
@@ -9,7 +9,6 @@ use lib.ListN.{length, take, drop, replicate, length-map, length-take, length-re
 use borrow.Author.Tests.{ltb-true, ltb-false, le-ltb}
 use Rattle.base.proofs.Tests.{bool-cases}
 use Rattle.actions.proofs.Arrays.{map-drop}
-use Rattle.model.specs.State as model
 use Rattle.model.specs.State.{Store}
 use Rattle.model.specs.Sound.{packagesMost, sound, soundFor}
 use Rattle.model.specs.Reading.{ReadingReply, refusedBy, shortBuffer, given, Report, PackageRecord, packageRecord, packageRecords, packagesReport, reportOf, reportReply, reportBuffer}
@@ -28,7 +27,7 @@ use Rattle.reading_reply.specs.declared.ReadingReply.{ReadingReply as Reply}
 use Rattle.reading_reply.specs.declared.ReadingReply.the-variants.{Refused, ShortBuffer, Given}
 use Rattle.reading_reply.specs.Reply.{replyOf}
 use Rattle.packages_report.specs.declared.report.PackagesReport.{PackagesReport}
-use Rattle.packages_report.specs.Packages.{listed, packagesReply, viewList, packagesGiven, noneWritten, reportWith, copiedOf, filledFrom}
+use Rattle.packages_report.specs.Packages.{listed, packagesReply, viewList, packagesGiven, noneWritten, reportWith, filledFrom}
 
 -- ---- the reply
 

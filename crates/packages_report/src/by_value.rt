@@ -1,5 +1,6 @@
 // Packages for a caller that has no list to lend: the records come back by value.
 use crate::packages;
+use crate::report::cleared_record;
 use package_records::Record;
 use reading_reply::ReadingReply;
 use state::state::State;
@@ -20,15 +21,11 @@ pub struct PackagesByValue {
     pub list: [Record; LIST_MOST],
 }
 
+// The list before it is lent.
 fn cleared_list() -> [Record; LIST_MOST]
     ensures { λ r. ⌜ r ≡ replicate listMost clearedRecord ⌝ }
 {
-    let cleared = Record {
-        id: 0,
-        size: 0,
-        received: 0,
-        state: 0,
-    };
+    let cleared = cleared_record();
     [cleared; LIST_MOST]
 }
 
@@ -42,6 +39,7 @@ fn room_within(room: usize) -> usize
     room
 }
 
+// The result.
 fn with_list(answer: ReadingReply, list: [Record; LIST_MOST]) -> PackagesByValue
     ensures { λ r. ⌜ (r .answer ≡ answer) × (r .list ≡ list) ⌝ }
 {

@@ -31,6 +31,7 @@ fn fill(list: &mut [Record], report: PackagesReport) -> ReadingReply
     answer_of(report)
 }
 
+// Packages: the records of all packages into the first places of a lent list, where they fit. A refusal writes nothing.
 pub fn packages(list: &mut [Record], s: State, store: &[u8]) -> ReadingReply
     ensures meaning { λ r. ⌜ packagesGiven r (now (list .exit)) ≡ packagesReport (viewState s) (now (store .entry)) (viewList (now (list .entry))) ⌝ }
     ensures exact { λ r. ⌜ now (list .exit) ≡ reportBuffer (replyOf r) (listed s) (now (list .entry)) ⌝ }

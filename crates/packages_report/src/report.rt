@@ -11,7 +11,7 @@ ghost use mathlib.Core.Path.{_≡_};
 ghost use lib.ListN.{length};
 ghost use Rattle.model.specs.State.{Store};
 ghost use Rattle.state.specs.View.{viewState};
-ghost use Rattle.package_records.specs.Records.{recordsOf};
+ghost use Rattle.package_records.specs.Records.{clearedRecord, recordsOf};
 ghost use Rattle.packages_report.specs.Packages.{copiedOf, noneWritten, recordAt, packagesReply, reportWith};
 
 // The answer, and the records that are written: none where the call is refused.
@@ -20,16 +20,23 @@ pub struct PackagesReport {
     pub written: Records,
 }
 
-// A refusal: nothing is written.
-fn none_written(answer: ReadingReply) -> PackagesReport
-    ensures { λ r. ⌜ r ≡ noneWritten answer ⌝ }
+// What stands in an unused place.
+pub fn cleared_record() -> Record
+    ensures { λ r. ⌜ r ≡ clearedRecord ⌝ }
 {
-    let cleared = Record {
+    Record {
         id: 0,
         size: 0,
         received: 0,
         state: 0,
-    };
+    }
+}
+
+// A refusal: nothing is written.
+fn none_written(answer: ReadingReply) -> PackagesReport
+    ensures { λ r. ⌜ r ≡ noneWritten answer ⌝ }
+{
+    let cleared = cleared_record();
     let records = [cleared; PACKAGES_MOST];
     let written = Records {
         records: records,
@@ -75,7 +82,7 @@ pub fn copied(report: PackagesReport, length: usize) -> usize
     count
 }
 
-// The record at a place.
+// The record at a place; a cleared one past the last place.
 pub fn record_at(report: PackagesReport, i: usize) -> Record
     ensures { λ r. ⌜ r ≡ recordAt (report .written .records) i ⌝ }
 {
@@ -84,14 +91,10 @@ pub fn record_at(report: PackagesReport, i: usize) -> Record
         let records = written.records;
         return records[i];
     }
-    Record {
-        id: 0,
-        size: 0,
-        received: 0,
-        state: 0,
-    }
+    cleared_record()
 }
 
+// The answer of a report.
 pub fn answer_of(report: PackagesReport) -> ReadingReply
     ensures { λ r. ⌜ r ≡ report .answer ⌝ }
 {

@@ -52,7 +52,6 @@ use Rattle.state.proofs.transfers.Transfers.Laws as N′
 use Rattle.package_records.specs.declared.Record.{Record}
 use Rattle.package_records.specs.Records.{recordsOf}
 use Rattle.package_records.proofs.Record as R
-use Rattle.package_records.proofs.Record.Laws as R′
 use Rattle.reading_reply.specs.declared.ReadingReply.{ReadingReply as Reply}
 use Rattle.reading_reply.specs.Reply.{replyOf}
 use Rattle.reading_reply.proofs.ReadingReply as S

@@ -37,7 +37,7 @@ use denote.ArrayMemory.{array-apart, array-whole}
 use denote.Index.{row, whole-out, whole-in}
 use denote.RattleType.{owns}
 use denote.Signature.{plain, shrSliceOf}
-use denote.Slice.{sliceTy, sliceVal, MutSlice, ShrSlice, Room, finally, slice-vals, shr-slice-tells, shr-slice-lawful}
+use denote.Slice.{sliceTy, sliceVal, MutSlice, ShrSlice, Room, slice-vals, shr-slice-tells, shr-slice-lawful}
 use denote.Lend.{Held, lends-slice, slice-back}
 use denote.Steps.{only, owned, peeks, heard, nothing}
 use denote.Struct.Steps.{spelt}

@@ -13,8 +13,11 @@ array-copy-out-result c = search needs
 returns : tie.Need-returns
 returns c = simp (lt-ltb _ _ (c .before .before .before .if1 .taken))
 
+cleared-record-requires : tie.Need-cleared-record-requires
+cleared-record-requires c κs = search needs
+
 returns-2 : tie.Need-returns-2
-returns-2 c = simp (le-ltb _ _ (c .if1 .left))
+returns-2 c = rw (le-ltb _ _ (c .before .if1 .left)) (c .cleared-record .ensures)
 
 pub record-at-spec : {M : Type 1} → statement M
-record-at-spec = tie.close (tie.spec mul-result array-copy-out-result returns returns-2)
+record-at-spec = tie.close (tie.spec mul-result array-copy-out-result returns cleared-record-requires returns-2)

@@ -1,6 +1,6 @@
 -- `packages_report::report::report_within` meets its contract: refused by 1, by 19, or with all records. Assumes nothing.
 use borrow.Author.Needs.{needs}
-use mathlib.Core.Path.{_≡_, sym, refl}
+use mathlib.Core.Path.{_≡_, refl}
 use lib.ListN.{length}
 use Rattle.base.proofs.Counted.{unmapped}
 use Rattle.base.proofs.Ladder.{told-no, told-yes}

@@ -1,5 +1,5 @@
 -- The two words of an answer tell it: they read back as the reply. Assumes nothing.
-use mathlib.Core.Path.{_≡_, refl, ap, _∙_}
+use mathlib.Core.Path.{_≡_, refl}
 use mathlib.Core.Option.{some}
 use Rattle.model.specs.Calls.{givenId, done, working, processed, cancelled, inconsistent, preActivationFailed, missingDependencies, verificationFailed, notAbleToRollback, notAbleToRevert, cleaningFailed, Reply, refused, accepted}
 use Rattle.state.specs.declared.answer.Answer.{Answer}

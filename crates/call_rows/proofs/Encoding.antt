@@ -1,19 +1,19 @@
 -- Every list of calls can be written as words and bytes that are decoded as it. The words fit 32 bits where the numbers of the calls do
 -- and all blocks together are shorter than 4,294,967,296 bytes; the bytes fit 8 bits where those of the blocks do. Assumes nothing.
 use Prim.Native.Nat.{ℕ, zero, suc, _+_, _<_, _≤_}
-use mathlib.Core.Path.{_≡_, refl, ap, ap₂, _∙_}
+use mathlib.Core.Path.{_≡_, refl, ap₂}
 use mathlib.Core.Bool.{true, false}
 use mathlib.Core.List.{List, [], _∷_, _++_, append-assoc, List·Memᴰ, List·Memᴰ·head, List·Memᴰ·tail}
-use mathlib.Core.Option.{Option, none, some, Option·map}
+use mathlib.Core.Option.{some, Option·map}
 use native.Mathlib.Omega.{arith}
-use lib.ListN.{length, take, drop, getD, length-append}
+use lib.ListN.{length, take, drop, length-append}
 use lib.Seq.{take-append-seam, drop-append-seam}
 use borrow.Author.Tests.{le-leb}
 use Rattle.model.specs.Calls.{Call, transferStart, transferData, transferExit, deleteTransfer, process, work, cancel, revert, activate, rollback, finish, report}
 use Rattle.request.specs.declared.Request.{Request}
 use Rattle.request.specs.Call.{callOf}
 use Rattle.call_rows.specs.declared.row.Row.{Row}
-use Rattle.call_rows.specs.Row.{row, requestsByNumber, requested, requestWithin, decodedRow}
+use Rattle.call_rows.specs.Row.{requestsByNumber, requested, requestWithin, decodedRow}
 use Rattle.call_rows.specs.Rows.{before, decoded}
 use Rattle.call_rows.specs.Encoding.{rowWithNumber, encodedRow, blockIn, encodedFrom, encodedRows, encodedBytes, wordLimit, byteLimit, AllBelow, NumbersFit}
 

@@ -1,17 +1,18 @@
 -- The ways out of the functions on rows, each a law. Assumes nothing.
 use Prim.Native.Nat.{ℕ, _+_, _-_, _≤_}
-use mathlib.Core.Path.{_≡_, refl, sym, ap, _∙_}
-use mathlib.Core.Bool.{Bool, true, false, cond}
+use mathlib.Core.Path.{_≡_, sym, ap, _∙_}
 use mathlib.Core.List.{List}
 use mathlib.Core.Option.{Option, none, some}
 use native.Mathlib.Omega.{arith}
-use lib.Dec.{eqb}
+use lib.Dec.{leb}
 use lib.ListN.{take, drop, getD, List·getD-eq-default}
-use borrow.Author.Tests.{eq-eqb, ne-eqb}
+use borrow.Author.Tests.{eq-eqb, ne-eqb, leb-true}
+use Rattle.base.proofs.Tests.{none-some, cond-cases}
 use Rattle.request.specs.declared.Request.{Request}
 use Rattle.call_rows.specs.declared.row.Row.{Row}
 use Rattle.call_rows.specs.declared.row.RowRequest.{RowRequest}
-use Rattle.call_rows.specs.Row.{blockOf, requestIn, requestsByNumber, requested}
+use Rattle.call_rows.specs.declared.row.RowRequest.the-variants.{WellFormed}
+use Rattle.call_rows.specs.Row.{blockOf, requestIn, requestsByNumber, requested, requestWithin}
 
 -- the part between the start and the end is the block
 pub block-part : (r : Row) (bytes : List ℕ) → take (r .start + r .length - r .start) (drop (r .start) bytes) ≡ blockOf r bytes
@@ -44,3 +45,16 @@ past-five n h0 h1 h2 h3 h4 h5 = omega arith
 
 pub past-eleven : (n : ℕ) → 6 ≤ n → (n ≡ 6 → ⊥) → (n ≡ 7 → ⊥) → (n ≡ 8 → ⊥) → (n ≡ 9 → ⊥) → (n ≡ 10 → ⊥) → (n ≡ 11 → ⊥) → 12 ≤ n
 past-eleven n h h6 h7 h8 h9 h10 h11 = omega arith
+
+-- ---- a row that has a request
+
+within : (r : Row) (room : ℕ) (request : Request) → requestWithin r room ≡ some request → r .start + r .length ≤ room
+unfolding requestWithin
+within r room request =
+    cond-cases (λ (o : Option Request). o ≡ some request → r .start + r .length ≤ room) (leb (r .start + r .length) room) (requested r) none
+    (λ t e. leb-true (r .start + r .length) room t) λ f e. none-some e
+
+-- its block lies within the byte string
+pub block-within : (r : Row) (room : ℕ) (answer : RowRequest) (request : Request) → answer ≡ WellFormed request
+    → requestIn answer ≡ requestWithin r room → r .start + r .length ≤ room
+block-within r room answer request is told = within r room request (sym told ∙ ap requestIn is)

@@ -1,20 +1,23 @@
 -- A list of words six at a time, as loops go along it. Assumes nothing.
-use Prim.Native.Nat.{ℕ, _+_, _-_, _≤_, _<_}
+use Prim.Native.Nat.{ℕ, _+_, _*_, _-_, _≤_, _<_}
 use mathlib.Core.Path.{_≡_, refl, sym, ap, _∙_}
-use mathlib.Core.Bool.{Bool, true, false}
+use mathlib.Core.Bool.{true, false}
 use mathlib.Core.List.{List, [], _∷_}
-use mathlib.Core.Option.{Option, none, some}
+use mathlib.Core.Option.{Option, none, some, Option·some-injective}
 use native.Mathlib.Numerals.{add-one}
 use native.Mathlib.Omega.{arith}
+use lib.Dec.{leb}
 use lib.ListN.{length, drop, getD, length-drop, drop-of-length-le}
 use lib.Seq.{drop-cons}
+use borrow.Author.Tests.{leb-true, leb-false}
+use Rattle.base.proofs.Tests.{bool-cases, none-some}
 use Rattle.model.specs.Calls.{Call}
 use Rattle.request.specs.declared.Request.{Request}
 use Rattle.request.specs.Call.{callOf}
 use Rattle.call_rows.specs.declared.row.Row.{Row}
 use Rattle.call_rows.specs.declared.row.RowRequest.{RowRequest}
 use Rattle.call_rows.specs.declared.row.RowRequest.the-variants.{WellFormed, Malformed}
-use Rattle.call_rows.specs.Row.{rowAt, blockOf, requestIn, requestWithin, decodedRow}
+use Rattle.call_rows.specs.Row.{row, rowAt, blockOf, requestIn, requestWithin, decodedRow}
 use Rattle.call_rows.specs.Rows.{before, decoded, isGiven}
 
 -- ---- a row
@@ -74,6 +77,47 @@ words-left-over words bytes i h k = few-words (drop i words) bytes (rw length-dr
 pub no-words-left : (words bytes : List ℕ) (i : ℕ) → length words ≤ i → decoded (drop i words) bytes ≡ some []
 unfolding decoded
 no-words-left words bytes i h = ap (λ (l : List ℕ). decoded l bytes) (drop-of-length-le words {i = i} h)
+
+-- ---- a list that is given begins with a call, and what is left is given
+
+pub record First (a : Option Call) (b : Option (List Call)) (calls : List Call) : Type 0 where
+  pub call : Call
+  pub rest : List Call
+  pub here : a ≡ some call
+  pub later : b ≡ some rest
+  pub both : calls ≡ call ∷ rest
+
+first-of : (a : Option Call) (b : Option (List Call)) (calls : List Call) → before a b ≡ some calls → First a b calls
+first-of none b calls e = none-some e
+first-of (some call) none calls e = none-some e
+first-of (some call) (some rest) calls e =
+    record { call = call; rest = rest; here = refl; later = refl; both = sym (Option·some-injective _ _ e) }
+
+module _ (words bytes : List ℕ) (i : ℕ) (calls : List Call) (given : decoded (drop i words) bytes ≡ some calls) where
+  -- while words are left, a whole row is
+  pub whole-row : i < length words → i + 6 ≤ length words
+  whole-row h =
+      bool-cases (leb (i + 6) (length words)) (λ t. leb-true (i + 6) (length words) t)
+      λ f. none-some (sym (words-left-over words bytes i h (omega (arith, leb-false (i + 6) (length words) f))) ∙ given)
+
+  pub next-call : i + 6 ≤ length words → First (decodedRow (rowAt words i) bytes) (decoded (drop (i + 6) words) bytes) calls
+  next-call whole = first-of _ _ calls (sym (first-row words bytes i whole) ∙ given)
+
+  pub no-calls-left : length words ≤ i → calls ≡ []
+  no-calls-left h = Option·some-injective _ _ (sym given ∙ no-words-left words bytes i h)
+
+-- six words for each call
+pub six-for-each : (words bytes : List ℕ) (calls : List Call) → decoded words bytes ≡ some calls → length words ≡ 6 * length calls
+unfolding decoded
+six-for-each [] bytes calls e = omega (arith, ap length (Option·some-injective _ _ e))
+six-for-each (a ∷ []) bytes calls e = none-some e
+six-for-each (a ∷ b ∷ []) bytes calls e = none-some e
+six-for-each (a ∷ b ∷ c ∷ []) bytes calls e = none-some e
+six-for-each (a ∷ b ∷ c ∷ d ∷ []) bytes calls e = none-some e
+six-for-each (a ∷ b ∷ c ∷ d ∷ e ∷ []) bytes calls g = none-some g
+six-for-each (a ∷ b ∷ c ∷ d ∷ e ∷ f ∷ words) bytes calls g =
+    let first = first-of (decodedRow (row a b c d e f) bytes) (decoded words bytes) calls g in
+    omega (arith, ap length (first .both), six-for-each words bytes (first .rest) (first .later))
 
 -- ---- the check: the whole list is given exactly if what is left is
 

@@ -1,7 +1,7 @@
 -- A call in numbers: a row of six words. Calls have the numbers 0 to 11, in the order in which document 01 lists "the twelve changing
 -- calls".
 use Prim.Native.Nat.{ℕ, _+_}
-use mathlib.Core.Bool.{Bool, true, cond, _&&_}
+use mathlib.Core.Bool.{Bool, cond, _&&_}
 use mathlib.Core.List.{List, [], _∷_}
 use mathlib.Core.Option.{Option, none, some, Option·map}
 use lib.Dec.{eqb, leb}

@@ -1,8 +1,6 @@
 // A call in numbers: a row of six words, and a block in a byte string that is lent beside the rows.
 use request::Request;
 ghost use mathlib.Core.Path.{_≡_};
-ghost use mathlib.Core.Bool.{cond};
-ghost use mathlib.Core.Option.{none, some};
 ghost use Prim.Native.Nat.{_+_, _≤_};
 ghost use lib.ListN.{length};
 ghost use Rattle.call_rows.specs.Row.{rowAt, blockOf, requestIn, requestIf, requested, requestWithin};

@@ -1,5 +1,4 @@
 -- `call_rows::row::request_if` meets its contract: the same test. Assumes nothing.
-use borrow.Author.Needs.{needs}
 use Rattle.base.proofs.Ladder.{ladder}
 use Rattle.call_rows.proofs.row.request_if.Statement.{statement}
 use Rattle.call_rows.proofs.row.request_if.Tie as tie

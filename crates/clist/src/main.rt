@@ -1,5 +1,4 @@
-// Loads a cluster list from standard input with first transfer id 1 and prints ClusterInfo, or `refused 20`. It goes through the
-// list's reader and writer.
+// Loads a cluster list from standard input with first transfer id 1 and prints ClusterInfo, or `refused 20`.
 mod print;
 
 use crate::print::put_answer_to_read;

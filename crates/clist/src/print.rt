@@ -8,22 +8,36 @@ ghost use Rattle.cluster_list.specs.Read.{readListMost};
 ghost use Rattle.cluster_list.specs.Write.{writtenListMost};
 ghost use Rattle.model.specs.State.{State};
 ghost use Rattle.clist.specs.Answer.{answerTo, ReadInto};
-use cluster_list::read::ListAnswer;
-use cluster_list::read::read_list;
-use cluster_list_writer::write::write_list;
+use cluster_info::cluster_info;
+use clusters::table::empty_table;
+use load::load;
+use reading_reply::ReadingReply;
+use state::answer::Answer;
+use state::state::loaded_state;
 use text::write::put_bytes;
 
-// What is printed of a whole input, at the start of a buffer with room for the longest list; `put_answer_to_read` has such a buffer.
+// The first transfer id.
+const FIRST_ID: u32 = 1;
+
+// What is printed of a whole input, at the start of a buffer with room for the longest list; `put_answer_to_read` has such a buffer. Load
+// is lent a store of no bytes, because nothing is transferred, and handed a state that plays no part. A loaded state is sound and the
+// buffer has room, so ClusterInfo is not refused.
 fn put_answer(input: &[u8], buf: &mut [u8]) -> usize
     requires { ⌜ writtenListMost ≤ length (now buf) ⌝ }
     ensures { λ r. ⌜ ((given : State) → Put (now (buf .entry)) 0 (answerTo given (now (input .entry))) r (now (buf .exit))) ⌝ }
 {
-    let read = read_list(input);
-    let answer = read.answer;
-    let ListAnswer::WellFormed = answer else {
+    let mut store = [0u8; 0];
+    let given = loaded_state(empty_table(), FIRST_ID);
+    let loaded = load(given, input, FIRST_ID, &mut store);
+    let answer = loaded.answer;
+    let Answer::Done = answer else {
         return put_bytes(buf, 0, b"refused 20\n");
     };
-    write_list(buf, read.table)
+    let report = cluster_info(loaded.state, &store, buf);
+    let ReadingReply::Given(written) = report else {
+        return 0;
+    };
+    written
 }
 
 // What is printed of every input of which `count` bytes were read into a buffer: all, or as many as it has. It has more than a list can

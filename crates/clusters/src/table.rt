@@ -22,7 +22,7 @@ pub struct Table {
     pub count: usize,
 }
 
-// The place of a cluster in a table.
+// A place in a list, or nothing found: of a cluster in a table, of a package among the packages.
 pub enum Found {
     At(usize),
     Nothing,

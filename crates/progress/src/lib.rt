@@ -1,6 +1,7 @@
 // Progress: "Progress is floor(100 × done / payload), 100 for payload 0, and 0 outside Processing."
 use reading_reply::ReadingReply;
 use soundness::sound::sound;
+use state::phase::PROCESSING;
 use state::phase::phase_number;
 use state::refusal::BAD_STATE;
 use state::state::State;
@@ -14,9 +15,6 @@ ghost use Rattle.model.specs.Sound.{soundFor};
 ghost use Rattle.model.specs.Reading.{given, progressOf, progress};
 ghost use Rattle.state.specs.View.{keptWork, viewState};
 ghost use Rattle.reading_reply.specs.Reply.{replyOf};
-
-// Document 01's number of the manager's state Processing.
-const PROCESSING: usize = 2;
 
 // "floor(100 × done / payload)": the product has 64 bits. `percentage` sees before that there is a payload.
 fn floor(done: u32, payload: u32) -> u64

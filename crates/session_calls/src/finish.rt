@@ -4,6 +4,7 @@ use soundness::sound::sound;
 use state::answer::Answered;
 use state::answer::refused;
 use state::permissions::FINISH;
+use state::phase::ACTIVATED;
 use state::phase::CleanUpOrigin;
 use state::phase::Phase;
 use state::phase::phase_number;
@@ -18,9 +19,6 @@ ghost use Rattle.model.specs.Step.{step};
 ghost use Rattle.state.specs.View.{viewState};
 ghost use Rattle.state.specs.Outcome.{outcome, viewOutcome, SoundIfAccepted, called, calledOnSound};
 ghost use Rattle.session_calls.specs.Moved.{finishOrigin, finishing};
-
-// Document 01's number of Activated.
-const ACTIVATED: usize = 5;
 
 // Where CleaningUp comes from: of the two states that allow Finish, Activated or else RolledBack.
 fn finish_origin(phase: Phase) -> CleanUpOrigin

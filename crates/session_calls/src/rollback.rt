@@ -6,6 +6,7 @@ use state::answer::refused;
 use state::permissions::ROLLBACK;
 use state::phase::Phase;
 use state::phase::RollbackOrigin;
+use state::phase::VERIFYING;
 use state::phase::phase_number;
 use state::refusal::BAD_STATE;
 use state::state::State;
@@ -18,9 +19,6 @@ ghost use Rattle.model.specs.Step.{step};
 ghost use Rattle.state.specs.View.{viewState};
 ghost use Rattle.state.specs.Outcome.{outcome, viewOutcome, SoundIfAccepted, called, calledOnSound};
 ghost use Rattle.session_calls.specs.Moved.{rollbackOrigin, rollingBack};
-
-// Document 01's number of Verifying.
-const VERIFYING: usize = 4;
 
 // Where RollingBack comes from: of the two states that allow Rollback, Verifying or else Activated.
 fn rollback_origin(phase: Phase) -> RollbackOrigin

@@ -1,4 +1,6 @@
 // What the manager's state says of the packages and the session's list.
+use state::phase::IDLE;
+use state::phase::PROCESSING;
 use state::phase::Phase;
 use state::phase::phase_number;
 ghost use mathlib.Core.Path.{_≡_};
@@ -9,11 +11,6 @@ ghost use lib.ListN.{length};
 ghost use Rattle.model.specs.State.{Entry, isProcessing};
 ghost use Rattle.model.specs.Sound.{listFits};
 ghost use Rattle.state.specs.View.{viewPhase};
-
-// Document 01's numbers of two of the manager's states.
-const IDLE: usize = 0;
-
-const PROCESSING: usize = 2;
 
 pub fn is_processing(phase: Phase) -> bool
     ensures { λ r. ⌜ r ≡ isProcessing (viewPhase phase) ⌝ }

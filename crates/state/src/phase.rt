@@ -28,19 +28,38 @@ pub enum Phase {
     CleaningUp(CleanUpOrigin),
 }
 
-// Document 01's number of the manager's state.
+// Document 01's numbers of the manager's states.
+pub const IDLE: usize = 0;
+
+pub const READY: usize = 1;
+
+pub const PROCESSING: usize = 2;
+
+pub const ACTIVATING: usize = 3;
+
+pub const VERIFYING: usize = 4;
+
+pub const ACTIVATED: usize = 5;
+
+pub const ROLLING_BACK: usize = 6;
+
+pub const ROLLED_BACK: usize = 7;
+
+pub const CLEANING_UP: usize = 8;
+
+// The number of the manager's state.
 pub fn phase_number(phase: Phase) -> usize
     ensures { λ r. ⌜ r ≡ phaseNumber (viewPhase phase) ⌝ }
 {
     match phase {
-        Phase::Idle => 0,
-        Phase::Ready => 1,
-        Phase::Processing => 2,
-        Phase::Activating => 3,
-        Phase::Verifying => 4,
-        Phase::Activated => 5,
-        Phase::RollingBack(_) => 6,
-        Phase::RolledBack => 7,
-        Phase::CleaningUp(_) => 8,
+        Phase::Idle => IDLE,
+        Phase::Ready => READY,
+        Phase::Processing => PROCESSING,
+        Phase::Activating => ACTIVATING,
+        Phase::Verifying => VERIFYING,
+        Phase::Activated => ACTIVATED,
+        Phase::RollingBack(_) => ROLLING_BACK,
+        Phase::RolledBack => ROLLED_BACK,
+        Phase::CleaningUp(_) => CLEANING_UP,
     }
 }

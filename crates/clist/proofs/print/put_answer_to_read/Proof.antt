@@ -1,5 +1,5 @@
 -- `clist::print::put_answer_to_read` puts what is printed of every input of which the bytes were read. Assumes nothing.
-use Rattle.clist.proofs.Laws.{answers, answer-inside}
+use Rattle.clist.proofs.FirstBytes.{answers, answer-inside}
 use borrow.Author.Needs.{needs}
 use Rattle.clist.proofs.print.put_answer_to_read.Statement.{statement}
 use Rattle.clist.proofs.print.put_answer_to_read.Tie as tie

@@ -15,8 +15,8 @@ use Rattle.state.specs.declared.state.State.{State}
 use Rattle.state.specs.View.{viewState}
 use Rattle.package_records.specs.declared.Record.{Record}
 use Rattle.package_records.specs.Records.{viewRecord}
-use Rattle.report_answer.specs.declared.ReportAnswer.{ReportAnswer}
-use Rattle.report_answer.specs.Reply.{replyOf}
+use Rattle.reading_reply.specs.declared.ReadingReply.{ReadingReply as Reply}
+use Rattle.reading_reply.specs.Reply.{replyOf}
 use Rattle.packages_report.specs.Packages.{listed, listMost, packagesReply, viewList, packagesGiven, roomWithin}
 use Rattle.packages_report.proofs.Reported.{Fits, fits}
 
@@ -39,7 +39,7 @@ module _ (s : State) (long : length (s .transfers .packages) ≡ packagesMost) (
       append-assoc (listed s) (drop count lent) (drop n xs)
       ∙ ap (λ (l : List Record). listed s ++ l) (sym (drop-append-le count lent (drop n xs) (f .2)) ∙ ap (drop count) (take-append-drop n xs))
 
-  pub lent-given : (store : Store) (r : ReportAnswer) (zs : List Record)
+  pub lent-given : (store : Store) (r : Reply) (zs : List Record)
       → packagesGiven r zs ≡ packagesReport (viewState s) store (viewList lent) → zs ≡ reportBuffer (replyOf r) (listed s) lent
       → (replyOf r ≡ packagesReply (viewState s) store n) × (zs ++ drop n xs ≡ reportBuffer (replyOf r) (listed s) xs)
   unfolding packagesReport reportOf packagesReply

@@ -17,15 +17,15 @@ use Rattle.model.proofs.reading.Buffers.{report-short, report-fits}
 use Rattle.state.specs.declared.state.State.{State}
 use Rattle.state.specs.View.{viewPackage, viewPackages, viewState}
 use Rattle.state.proofs.Views.{packages-few}
-use Rattle.areas.proofs.Along.{packages-length}
+use Rattle.state.proofs.PackagesAlong.{packages-length}
 use Rattle.areas.proofs.FirstPlaces.{take-first}
 use Rattle.areas.proofs.FoundPackage.{count-fits}
 use Rattle.package_records.specs.declared.Record.{Record}
 use Rattle.package_records.specs.declared.Records.{Records}
 use Rattle.package_records.specs.Records.{recordOf, clearedRecord, recordsOf, viewRecord}
-use Rattle.report_answer.specs.declared.ReportAnswer.{ReportAnswer}
-use Rattle.report_answer.specs.declared.ReportAnswer.the-variants.{Written, ShortBuffer, Refused}
-use Rattle.report_answer.specs.Reply.{replyOf}
+use Rattle.reading_reply.specs.declared.ReadingReply.{ReadingReply as Reply}
+use Rattle.reading_reply.specs.declared.ReadingReply.the-variants.{Refused, ShortBuffer, Given}
+use Rattle.reading_reply.specs.Reply.{replyOf}
 use Rattle.packages_report.specs.declared.report.PackagesReport.{PackagesReport}
 use Rattle.packages_report.specs.Packages.{listed, packagesReply, viewList, packagesGiven, noneWritten, reportWith, filledFrom}
 
@@ -72,7 +72,7 @@ module _ (s : State) (size room : ℕ) (r : PackagesReport) where
         e ∙ ap (λ (n : ℕ). noneWritten (ShortBuffer n)) count
         ∙ ap (λ (reply : ReadingReply). reportWith reply (recordsOf (s .transfers))) (sym (report-short (viewState s) store _ room (rw same ok) (rw count at short)))
 
-    pub written-report : records .count ≤ room → r ≡ record { answer = Written (records .count); written = records } → Reports
+    pub written-report : records .count ≤ room → r ≡ record { answer = Given (records .count); written = records } → Reports
     unfolding packagesReply
     written-report fits e store same =
         let count : records .count ≡ length (packageRecords (viewState s)) = ap (λ (x : Records). x .count) are ∙ sym (needed s few long) in
@@ -130,7 +130,7 @@ module _ (s : State) (long : length (s .transfers .packages) ≡ packagesMost) (
       ∙ rw (view-listed s (f .0) long, map-drop viewRecord count xs)
 
   -- what Packages says of its answer and of the list then
-  pub packages-given : (store : Store) (report : PackagesReport) (r : ReportAnswer) (zs : List Record)
+  pub packages-given : (store : Store) (report : PackagesReport) (r : Reply) (zs : List Record)
       → report ≡ reportWith (packagesReply (viewState s) store (length xs)) (recordsOf (s .transfers))
       → r ≡ report .answer → zs ≡ filledFrom (report .written) xs
       → (packagesGiven r zs ≡ packagesReport (viewState s) store (viewList xs)) × (zs ≡ reportBuffer (replyOf r) (listed s) xs)

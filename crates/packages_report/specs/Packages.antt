@@ -12,9 +12,9 @@ use Rattle.state.specs.declared.state.State.{State}
 use Rattle.package_records.specs.declared.Record.{Record}
 use Rattle.package_records.specs.declared.Records.{Records}
 use Rattle.package_records.specs.Records.{recordOf, clearedRecord, viewRecord}
-use Rattle.report_answer.specs.declared.ReportAnswer.{ReportAnswer}
-use Rattle.report_answer.specs.declared.ReportAnswer.the-variants.{Written, ShortBuffer, Refused}
-use Rattle.report_answer.specs.Reply.{replyOf}
+use Rattle.reading_reply.specs.declared.ReadingReply.{ReadingReply as Reply}
+use Rattle.reading_reply.specs.declared.ReadingReply.the-variants.{Refused, ShortBuffer, Given}
+use Rattle.reading_reply.specs.Reply.{reported}
 use Rattle.packages_report.specs.declared.report.PackagesReport.{PackagesReport}
 
 -- ---- what Packages answers and leaves in the lent list
@@ -32,19 +32,19 @@ abbrev pub viewList : List Record → List PackageRecord
 viewList = map viewRecord
 
 -- answer and list as the model's report
-abbrev pub packagesGiven : ReportAnswer → List Record → Report PackageRecord
-packagesGiven answer list = record { reply = replyOf answer; buffer = viewList list }
+abbrev pub packagesGiven : Reply → List Record → Report PackageRecord
+packagesGiven answer list = reported answer (viewList list)
 
 -- ---- the report by value, which is copied into the list
 
 -- a refusal: nothing is written
-abbrev pub noneWritten : ReportAnswer → PackagesReport
+abbrev pub noneWritten : Reply → PackagesReport
 noneWritten answer = record { answer = answer; written = record { records = replicate packagesMost clearedRecord; count = 0 } }
 
 abbrev pub reportWith : ReadingReply → Records → PackagesReport
 reportWith (refusedBy number) records = noneWritten (Refused number)
 reportWith (shortBuffer needed) records = noneWritten (ShortBuffer needed)
-reportWith (given count) records = record { answer = Written count; written = records }
+reportWith (given count) records = record { answer = Given count; written = records }
 
 -- how many of the counted records are copied into a list of a length: all where they fit, or none
 abbrev pub copiedOf : ℕ → ℕ → ℕ

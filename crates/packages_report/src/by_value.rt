@@ -2,14 +2,14 @@
 use crate::packages;
 use crate::report::cleared_record;
 use package_records::Record;
-use report_answer::ReportAnswer;
+use reading_reply::ReadingReply;
 use state::state::State;
 ghost use mathlib.Core.Path.{_≡_};
 ghost use lib.ListN.{replicate};
 ghost use Rattle.model.specs.Reading.{reportBuffer};
 ghost use Rattle.state.specs.View.{viewState};
 ghost use Rattle.package_records.specs.Records.{clearedRecord};
-ghost use Rattle.report_answer.specs.Reply.{replyOf};
+ghost use Rattle.reading_reply.specs.Reply.{replyOf};
 ghost use Rattle.packages_report.specs.Packages.{listed, listMost, packagesReply, roomWithin};
 
 // The room of the list.
@@ -17,7 +17,7 @@ pub const LIST_MOST: usize = 64;
 
 // The answer, and the list as Packages leaves it; it was cleared before.
 pub struct PackagesByValue {
-    pub answer: ReportAnswer,
+    pub answer: ReadingReply,
     pub list: [Record; LIST_MOST],
 }
 
@@ -40,7 +40,7 @@ fn room_within(room: usize) -> usize
 }
 
 // The result.
-fn with_list(answer: ReportAnswer, list: [Record; LIST_MOST]) -> PackagesByValue
+fn with_list(answer: ReadingReply, list: [Record; LIST_MOST]) -> PackagesByValue
     ensures { λ r. ⌜ (r .answer ≡ answer) × (r .list ≡ list) ⌝ }
 {
     PackagesByValue {

@@ -2,7 +2,7 @@
 use package_records::Record;
 use package_records::Records;
 use package_records::records_of;
-use report_answer::ReportAnswer;
+use reading_reply::ReadingReply;
 use soundness::sound::sound;
 use state::limits::PACKAGES_MOST;
 use state::refusal::BAD_STATE;
@@ -16,7 +16,7 @@ ghost use Rattle.packages_report.specs.Packages.{copiedOf, noneWritten, 
 
 // The answer, and the records that are written: none where the call is refused.
 pub struct PackagesReport {
-    pub answer: ReportAnswer,
+    pub answer: ReadingReply,
     pub written: Records,
 }
 
@@ -33,7 +33,7 @@ pub fn cleared_record() -> Record
 }
 
 // A refusal: nothing is written.
-fn none_written(answer: ReportAnswer) -> PackagesReport
+fn none_written(answer: ReadingReply) -> PackagesReport
     ensures { λ r. ⌜ r ≡ noneWritten answer ⌝ }
 {
     let cleared = cleared_record();
@@ -53,16 +53,16 @@ pub fn report_within(s: State, size: usize, room: usize) -> PackagesReport
     ensures { λ r. ⌜ ((store : Store) → length store ≡ size → r ≡ reportWith (packagesReply (viewState s) store room) (recordsOf (s .transfers))) ⌝ }
 {
     if !sound(s, size) {
-        return none_written(ReportAnswer::Refused(BAD_STATE));
+        return none_written(ReadingReply::Refused(BAD_STATE));
     }
     let t = s.transfers;
     let records = records_of(t);
     let needed = records.count;
     if room < needed {
-        return none_written(ReportAnswer::ShortBuffer(needed));
+        return none_written(ReadingReply::ShortBuffer(needed));
     }
     PackagesReport {
-        answer: ReportAnswer::Written(needed),
+        answer: ReadingReply::Given(needed),
         written: records,
     }
 }
@@ -95,7 +95,7 @@ pub fn record_at(report: PackagesReport, i: usize) -> Record
 }
 
 // The answer of a report.
-pub fn answer_of(report: PackagesReport) -> ReportAnswer
+pub fn answer_of(report: PackagesReport) -> ReadingReply
     ensures { λ r. ⌜ r ≡ report .answer ⌝ }
 {
     report.answer

@@ -59,9 +59,9 @@ use Rattle.package_records.proofs.Record as R
 use Rattle.package_records.proofs.Record.Laws as R′
 use Rattle.package_records.proofs.Records as U
 use Rattle.package_records.proofs.Records.Laws as U′
-use Rattle.report_answer.specs.declared.ReportAnswer.{ReportAnswer}
-use Rattle.report_answer.proofs.ReportAnswer as S
-use Rattle.report_answer.proofs.ReportAnswer.Laws as S′
+use Rattle.reading_reply.specs.declared.ReadingReply.{ReadingReply as Reply}
+use Rattle.reading_reply.proofs.ReadingReply as S
+use Rattle.reading_reply.proofs.ReadingReply.Laws as S′
 use Rattle.packages_report.specs.declared.report.PackagesReport.{PackagesReport}
 use Rattle.packages_report.specs.Packages.{copiedOf, recordAt, firstFrom, filledFrom}
 use Rattle.packages_report.proofs.Copied.{copied-next, copied-length, copied-bounds}
@@ -196,11 +196,11 @@ module _ {M : Type 1} (𝓤 : URA M) (H : Heap 𝓤) (A : Atoms 𝓤) (W : Given
   record-said : (i : ℕ) (r : Record) → ent 𝓤 (ensured 𝓤 H A record-at.ended (record-at.clauses 𝓤 H A at-mem run) tt (report, (i, tt)) tt r) (fact 𝓤 (r ≡ recordAt rs i))
   record-said i r = exE 𝓤 _ (λ ws. snd∗ 𝓤 (sem 𝓤 H A (lasts record-at.ended tt (report, (i, tt)) ws)) (fact 𝓤 (r ≡ recordAt rs i)))
 
-  answer-said : (r : ReportAnswer) → ent 𝓤 (ensured 𝓤 H A answer-of.ended (answer-of.clauses 𝓤 H A at-mem run) tt (report, tt) tt r) (fact 𝓤 (r ≡ report .answer))
+  answer-said : (r : Reply) → ent 𝓤 (ensured 𝓤 H A answer-of.ended (answer-of.clauses 𝓤 H A at-mem run) tt (report, tt) tt r) (fact 𝓤 (r ≡ report .answer))
   answer-said r = exE 𝓤 _ (λ ws. snd∗ 𝓤 (sem 𝓤 H A (lasts answer-of.ended tt (report, tt) ws)) (fact 𝓤 (r ≡ report .answer)))
 
   -- ---- from what is had at exit to the `post` of `walkOf`
-  exits : (r : ReportAnswer) (u : Val) → r ≡ report .answer
+  exits : (r : Reply) (u : Val) → r ≡ report .answer
       → ent 𝓤 (⋆ 𝓤 H A (‵ (fobs γ (codedHoleys R.the-row .code (heres R.the-row zs))) ∷ ‵ (fbor κ (Held R.the-row (length zs) b o γ)) ∷ ‵ (flft κ q) ∷ ‵ (S.the-row .own r (u ∷ [])) ∷ [])) (Post u)
   exits r u e =
       qed W (‵ (fobs γ (codedHoleys R.the-row .code (heres R.the-row zs))) ∷ ‵ (fbor κ (Held R.the-row (length zs) b o γ)) ∷ ‵ (flft κ q) ∷ ‵ (S.the-row .own r (u ∷ [])) ∷ []) ∵
@@ -299,7 +299,7 @@ module _ {M : Type 1} (𝓤 : URA M) (H : Heap 𝓤) (A : Atoms 𝓤) (W : Given
           rewrite ! 4 (λ (t : Bool). ‵ (fat fullShare tyBool l₇ 0 (vbool t))) (le-ltb (i .0) n over) refl $ leaves-loop ! (load ! (from ! (stop !)) (look ! 4 refl)) $ exec ! C Λ En steps.t-5 (atRet En Post) $
           use0 W (raw (AnswerOf 𝓤 H A at-mem run .pre to-answer)) ask-answer $
           calls-at ! fm (AnswerOf 𝓤 H A at-mem run) known-answer to-answer (and-then ! (load ! (from ! (stop !)) (look ! 15 refl)) (no-more !)) (λ u.
-          use1 W (later (some (λ (r : ReportAnswer). (‵ ftrue ⊛ ‵ (S.the-row .own r (u ∷ []))) ⊛ raw (ensured 𝓤 H A answer-of.ended (answer-of.clauses 𝓤 H A at-mem run) tt (report, tt) tt r)))) (id⊢ 𝓤 _) $ await ! tt $ pick ! (λ r.
+          use1 W (later (some (λ (r : Reply). (‵ ftrue ⊛ ‵ (S.the-row .own r (u ∷ []))) ⊛ raw (ensured 𝓤 H A answer-of.ended (answer-of.clauses 𝓤 H A at-mem run) tt (report, tt) tt r)))) (id⊢ 𝓤 _) $ await ! tt $ pick ! (λ r.
           split ! $ move ! (1 ∷ []) $ use1 W (raw (fact 𝓤 (r ≡ report .answer))) (answer-said r) $ heard ! (r ≡ report .answer) (λ e. split ! $ move ! (1 ∷ []) $
           peeks ! S.the-row (Is S.the-row) (shows 𝓤 H A S.the-row) r (u ∷ []) (λ is.
           land ! (from ! (stop !)) (init ! 20 refl (EL.lawful S.the-type S′.the-laws 𝓤 H A W tt .typed r _ is .0)) $

@@ -52,10 +52,10 @@ use Rattle.state.proofs.transfers.Transfers.Laws as N′
 use Rattle.package_records.specs.declared.Record.{Record}
 use Rattle.package_records.specs.Records.{recordsOf}
 use Rattle.package_records.proofs.Record as R
-use Rattle.report_answer.specs.declared.ReportAnswer.{ReportAnswer}
-use Rattle.report_answer.specs.Reply.{replyOf}
-use Rattle.report_answer.proofs.ReportAnswer as S
-use Rattle.report_answer.proofs.ReportAnswer.Laws as S′
+use Rattle.reading_reply.specs.declared.ReadingReply.{ReadingReply as Reply}
+use Rattle.reading_reply.specs.Reply.{replyOf}
+use Rattle.reading_reply.proofs.ReadingReply as S
+use Rattle.reading_reply.proofs.ReadingReply.Laws as S′
 use Rattle.packages_report.specs.declared.report.PackagesReport.{PackagesReport}
 use Rattle.packages_report.specs.Packages.{packagesReply, reportWith, filledFrom, listed, viewList, packagesGiven}
 use Rattle.packages_report.proofs.Reported.{packages-given}
@@ -149,17 +149,17 @@ module _ {M : Type 1} (𝓤 : URA M) (H : Heap 𝓤) (A : Atoms 𝓤) (W : Given
       nothing ! $ move ! (3 ∷ 0 ∷ []) $ fjoin ! $ move ! (2 ∷ 0 ∷ []) $ fjoin ! $ nothing ! $ move ! (2 ∷ 0 ∷ []) $ join ! $ join ! $ frame ! $ done !
 
   -- what `fill` says of its result and of the last list
-  abbrev Filled : PackagesReport → ReportAnswer → List Record → Type 0
+  abbrev Filled : PackagesReport → Reply → List Record → Type 0
   Filled report r zs = (r ≡ report .answer) × (zs ≡ filledFrom (report .written) xs)
 
   -- what is said of the result and of the last list
-  abbrev Meaning : ReportAnswer → List Record → Type 0
+  abbrev Meaning : Reply → List Record → Type 0
   Meaning r zs = packagesGiven r zs ≡ packagesReport (viewState m) (store .now) (viewList xs)
 
-  abbrev Exact : ReportAnswer → List Record → Type 0
+  abbrev Exact : Reply → List Record → Type 0
   Exact r zs = zs ≡ reportBuffer (replyOf r) (listed m) xs
 
-  exits : (r : ReportAnswer) (w : Val) (zs : List Record) → Meaning r zs × Exact r zs → length zs ≡ length xs
+  exits : (r : Reply) (w : Val) (zs : List Record) → Meaning r zs × Exact r zs → length zs ≡ length xs
       → ent 𝓤 (⋆ 𝓤 H A ((‵ (flft κ q) ⊛ ‵ ftrue) ∷ (‵ (flft κ′ q′) ⊛ ‵ ftrue) ∷ ‵ (finally R.the-row γ zs) ∷ ‵ (S.the-row .own r (w ∷ [])) ∷ [])) (Post w)
   exits r w zs e l =
       qed W ((‵ (flft κ q) ⊛ ‵ ftrue) ∷ (‵ (flft κ′ q′) ⊛ ‵ ftrue) ∷ ‵ (finally R.the-row γ zs) ∷ ‵ (S.the-row .own r (w ∷ [])) ∷ []) ∵
@@ -189,7 +189,7 @@ module _ {M : Type 1} (𝓤 : URA M) (H : Heap 𝓤) (A : Atoms 𝓤) (W : Given
         move ! (21 ∷ []) $ fsplit ! $ move ! (22 ∷ []) $ split ! $ move ! (0 ∷ 2 ∷ 4 ∷ []) $ use3 W (raw (Fill 𝓤 H A mem run .pre (to-fill report u))) (goes report u) $
         -- [the call; the store's token; what s and store own; true; _8; …]
         calls-at ! fm (Fill 𝓤 H A mem run) known-fill (to-fill report u) (and-then ! (load ! (from ! (stop !)) (look ! 4 refl)) (and-then ! (load ! (from ! (stop !)) (look ! 8 refl)) (no-more !))) (λ w.
-        use1 W (later (some (λ (r : ReportAnswer). ((‵ (flft κ q) ⊛ ‵ ftrue) ⊛ ‵ (S.the-row .own r (w ∷ []))) ⊛ raw (ensured 𝓤 H A fill.ended (fill.clauses 𝓤 H A mem run) (κ, tt) (x, (report, tt)) tt r)))) (id⊢ 𝓤 _) $ await ! tt $ pick ! (λ r.
+        use1 W (later (some (λ (r : Reply). ((‵ (flft κ q) ⊛ ‵ ftrue) ⊛ ‵ (S.the-row .own r (w ∷ []))) ⊛ raw (ensured 𝓤 H A fill.ended (fill.clauses 𝓤 H A mem run) (κ, tt) (x, (report, tt)) tt r)))) (id⊢ 𝓤 _) $ await ! tt $ pick ! (λ r.
         split ! $ move ! (1 ∷ []) $ use1 W (some (λ (zs : List Record × (Unit {0} × Unit {0})). ‵ (lasts fill.ended (κ, tt) (x, (report, tt)) zs) ⊛ raw (fact 𝓤 (Filled report r (zs .0))))) (id⊢ 𝓤 _) $ pick ! (λ zs.
         split ! $ move ! (1 ∷ []) $ heard ! (Filled report r (zs .0)) (λ e₂. fsplit ! $ fsplit ! $ move ! (1 ∷ []) $ feqL ! (λ l.
         -- [the last list; true; the token and the result; …]

@@ -65,10 +65,10 @@ use Rattle.package_records.specs.declared.Record.{Record}
 use Rattle.package_records.specs.Records.{clearedRecord}
 use Rattle.package_records.proofs.Record as R
 use Rattle.package_records.proofs.Record.Laws as R′
-use Rattle.report_answer.specs.declared.ReportAnswer.{ReportAnswer}
-use Rattle.report_answer.specs.Reply.{replyOf}
-use Rattle.report_answer.proofs.ReportAnswer as S
-use Rattle.report_answer.proofs.ReportAnswer.Laws as S′
+use Rattle.reading_reply.specs.declared.ReadingReply.{ReadingReply as Reply}
+use Rattle.reading_reply.specs.Reply.{replyOf}
+use Rattle.reading_reply.proofs.ReadingReply as S
+use Rattle.reading_reply.proofs.ReadingReply.Laws as S′
 use Rattle.packages_report.specs.declared.by_value.PackagesByValue.{PackagesByValue}
 use Rattle.packages_report.specs.Packages.{listed, listMost, packagesReply, viewList, packagesGiven, roomWithin}
 use Rattle.packages_report.proofs.Lent.{room-within-most, lent-given}
@@ -215,21 +215,21 @@ module _ {M : Type 1} (𝓤 : URA M) (H : Heap 𝓤) (A : Atoms 𝓤) (W : Given
   within-said k = exE 𝓤 _ (λ ws. snd∗ 𝓤 (sem 𝓤 H A (lasts room-within.ended tt (room, tt) ws)) (fact 𝓤 (k ≡ n)))
 
   -- the call of `with_list`
-  abbrev to-list : ReportAnswer → Val → List Record → WithList 𝓤 H A mem′ run .Ghost
+  abbrev to-list : Reply → Val → List Record → WithList 𝓤 H A mem′ run .Ghost
   to-list r w zs = ((tt, tt, tt, (r, (zs, tt)), (w ∷ [], (valOf zs ∷ [], tt))), tt)
 
-  goes-list : (r : ReportAnswer) (w : Val) (zs : List Record) → ent 𝓤 (⋆ 𝓤 H A (‵ (S.the-row .own r (w ∷ [])) ∷ ‵ (Array R.the-row 64 .own zs (valOf zs ∷ [])) ∷ [])) (WithList 𝓤 H A mem′ run .pre (to-list r w zs))
+  goes-list : (r : Reply) (w : Val) (zs : List Record) → ent 𝓤 (⋆ 𝓤 H A (‵ (S.the-row .own r (w ∷ [])) ∷ ‵ (Array R.the-row 64 .own zs (valOf zs ∷ [])) ∷ [])) (WithList 𝓤 H A mem′ run .pre (to-list r w zs))
   goes-list r w zs =
       qed W (‵ (S.the-row .own r (w ∷ [])) ∷ ‵ (Array R.the-row 64 .own zs (valOf zs ∷ [])) ∷ []) ∵ nothing ! $ move ! (2 ∷ 0 ∷ []) $ fjoin ! $ move ! (1 ∷ 0 ∷ []) $ fjoin ! $ nothing ! $ join ! $ frame ! $ done !
 
-  list-said : (r : ReportAnswer) (zs : List Record) (t : PackagesByValue) → ent 𝓤 (ensured 𝓤 H A with-list.ended (with-list.clauses 𝓤 H A mem′ run) tt (r, (zs, tt)) tt t) (fact 𝓤 ((t .answer ≡ r) × (t .list ≡ zs)))
+  list-said : (r : Reply) (zs : List Record) (t : PackagesByValue) → ent 𝓤 (ensured 𝓤 H A with-list.ended (with-list.clauses 𝓤 H A mem′ run) tt (r, (zs, tt)) tt t) (fact 𝓤 ((t .answer ≡ r) × (t .list ≡ zs)))
   list-said r zs t = exE 𝓤 _ (λ ws. snd∗ 𝓤 (sem 𝓤 H A (lasts with-list.ended tt (r, (zs, tt)) ws)) (fact 𝓤 ((t .answer ≡ r) × (t .list ≡ zs))))
 
   -- what is said of the result
-  abbrev Replies : ReportAnswer → Type 0
+  abbrev Replies : Reply → Type 0
   Replies r = replyOf r ≡ packagesReply (viewState m) (store .now) n
 
-  abbrev Leaves : ReportAnswer → List Record → Type 0
+  abbrev Leaves : Reply → List Record → Type 0
   Leaves r zs = zs ≡ reportBuffer (replyOf r) (listed m) (replicate listMost clearedRecord)
 
   exits : (t : PackagesByValue) (v : Val) → Replies (t .answer) → Leaves (t .answer) (t .list) → ent 𝓤 (⋆ 𝓤 H A ((‵ (flft κ q) ⊛ ‵ ftrue) ∷ ‵ (T.the-row .own t (v ∷ [])) ∷ [])) (Post v)
@@ -286,19 +286,19 @@ module _ {M : Type 1} (𝓤 : URA M) (H : Heap 𝓤) (A : Atoms 𝓤) (W : Given
         move ! (1 ∷ 2 ∷ 0 ∷ []) $ join ! $ join ! $ frame ! $ done !
 
     -- what `packages` says of its result and of the last list
-    abbrev Meaning : ReportAnswer → List Record → Type 0
+    abbrev Meaning : Reply → List Record → Type 0
     Meaning r zs = packagesGiven r zs ≡ packagesReport (viewState m) (store .now) (viewList ys)
 
-    abbrev Exact : ReportAnswer → List Record → Type 0
+    abbrev Exact : Reply → List Record → Type 0
     Exact r zs = zs ≡ reportBuffer (replyOf r) (listed m) ys
 
     -- what was said of the part that was lent, of the whole list
-    concludes : xs ≡ replicate listMost clearedRecord → (r : ReportAnswer) (zs : List Record) → Meaning r zs → Exact r zs
+    concludes : xs ≡ replicate listMost clearedRecord → (r : Reply) (zs : List Record) → Meaning r zs → Exact r zs
         → (t : PackagesByValue) (v : Val) → t .answer ≡ r → t .list ≡ zs ++ others → ent 𝓤 (⋆ 𝓤 H A ((‵ (flft κ q) ⊛ ‵ ftrue) ∷ ‵ (T.the-row .own t (v ∷ [])) ∷ [])) (Post v)
     concludes cleared r zs e f t v same list =
         let said = lent-given m long xs n inside (store .now) r zs e f in
         exits t v (ap replyOf same ∙ said .0)
-        (list ∙ said .1 ∙ ap (λ (l : List Record). reportBuffer (replyOf r) (listed m) l) cleared ∙ ap (λ (x : ReportAnswer). reportBuffer (replyOf x) (listed m) (replicate listMost clearedRecord)) (sym same))
+        (list ∙ said .1 ∙ ap (λ (l : List Record). reportBuffer (replyOf r) (listed m) l) cleared ∙ ap (λ (x : Reply). reportBuffer (replyOf x) (listed m) (replicate listMost clearedRecord)) (sym same))
 
   module _ (C : Calls 𝓤 H) (Λ : Loops 𝓤 H) (fm : FmC 𝓤 H (W .laws) C) (known-cleared : Triple 𝓤 (C #cleared-list) (ClearedList 𝓤 H A mem′ run)) (known-within : Triple 𝓤 (C #room-within) (RoomWithin 𝓤 H A mem′ run)) (known-packages : Triple 𝓤 (C #packages) (Packages 𝓤 H A mem′ run)) (known-list : Triple 𝓤 (C #with-list) (WithList 𝓤 H A mem′ run)) where
     walk : ent 𝓤 (onEntry 𝓤 H A by-value.signature (κ, tt) (q, tt) a vals) (WpFn 𝓤 H C Λ code.function (mv ∷ sv ∷ vint w64 room ∷ []) Post)
@@ -335,7 +335,7 @@ module _ {M : Type 1} (𝓤 : URA M) (H : Heap 𝓤) (A : Atoms 𝓤) (W : Given
         use3 W (raw (Packages 𝓤 H A mem′ run .pre (to-packages xs xv is₀ l₄ (α ∷ []) γ))) (goes-packages xs xv is₀ l₄ (α ∷ []) γ) $
         -- [the call; what room owns; what s owns; the lender's part; the other elements; what k owns; true; what xs owns; true; _9; …]
         calls-at ! fm (Packages 𝓤 H A mem′ run) known-packages (to-packages xs xv is₀ l₄ (α ∷ []) γ) (and-then ! (load ! (from ! (stop !)) (look ! 9 refl)) (and-then ! (load ! (from ! (stop !)) (look ! 24 refl)) (and-then ! (load ! (from ! (stop !)) (look ! 22 refl)) (no-more !)))) (λ w.
-        use1 W (later (some (λ (r : ReportAnswer). ((‵ (flft (α ∷ []) fullShare) ⊛ (‵ (flft κ q) ⊛ ‵ ftrue)) ⊛ ‵ (S.the-row .own r (w ∷ []))) ⊛ raw (ensured 𝓤 H A packages.ended (packages.clauses 𝓤 H A mem′ run) ((α ∷ []), (κ, tt)) (x xs xv is₀ l₄ γ, (m, (store, tt))) tt r)))) (id⊢ 𝓤 _) $ await ! tt $ pick ! (λ r.
+        use1 W (later (some (λ (r : Reply). ((‵ (flft (α ∷ []) fullShare) ⊛ (‵ (flft κ q) ⊛ ‵ ftrue)) ⊛ ‵ (S.the-row .own r (w ∷ []))) ⊛ raw (ensured 𝓤 H A packages.ended (packages.clauses 𝓤 H A mem′ run) ((α ∷ []), (κ, tt)) (x xs xv is₀ l₄ γ, (m, (store, tt))) tt r)))) (id⊢ 𝓤 _) $ await ! tt $ pick ! (λ r.
         split ! $ move ! (1 ∷ []) $ use1 W (some (λ (zs : List Record × (Unit {0} × (Unit {0} × Unit {0}))). ‵ (lasts packages.ended ((α ∷ []), (κ, tt)) (x xs xv is₀ l₄ γ, (m, (store, tt))) zs) ⊛ (raw (fact 𝓤 (Meaning xs xv is₀ r (zs .0))) ⊛ raw (fact 𝓤 (Exact xs xv is₀ r (zs .0)))))) (id⊢ 𝓤 _) $ pick ! (λ zs.
         split ! $ move ! (1 ∷ []) $ split ! $ heard ! (Meaning xs xv is₀ r (zs .0)) (λ e₂. heard ! (Exact xs xv is₀ r (zs .0)) (λ e₃. fsplit ! $ fsplit ! $ move ! (1 ∷ []) $ feqL ! (λ same.
         move ! (2 ∷ []) $ split ! $ move ! (1 ∷ []) $ peeks ! S.the-row (Is S.the-row) (shows 𝓤 H A S.the-row) r (w ∷ []) (λ is₂.

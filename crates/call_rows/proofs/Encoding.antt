@@ -1,0 +1,134 @@
+-- Every list of calls can be written as words and bytes that are decoded as it. The words fit 32 bits where the numbers of the calls do
+-- and all blocks together are shorter than 4,294,967,296 bytes; the bytes fit 8 bits where those of the blocks do. Assumes nothing.
+use Prim.Native.Nat.{ℕ, zero, suc, _+_, _<_, _≤_}
+use mathlib.Core.Path.{_≡_, refl, ap, ap₂, _∙_}
+use mathlib.Core.Bool.{true, false}
+use mathlib.Core.List.{List, [], _∷_, _++_, append-assoc, List·Memᴰ, List·Memᴰ·head, List·Memᴰ·tail}
+use mathlib.Core.Option.{Option, none, some, Option·map}
+use native.Mathlib.Omega.{arith}
+use lib.ListN.{length, take, drop, getD, length-append}
+use lib.Seq.{take-append-seam, drop-append-seam}
+use borrow.Author.Tests.{le-leb}
+use Rattle.model.specs.Calls.{Call, transferStart, transferData, transferExit, deleteTransfer, process, work, cancel, revert, activate, rollback, finish, report}
+use Rattle.request.specs.declared.Request.{Request}
+use Rattle.request.specs.Call.{callOf}
+use Rattle.call_rows.specs.declared.row.Row.{Row}
+use Rattle.call_rows.specs.Row.{row, requestsByNumber, requested, requestWithin, decodedRow}
+use Rattle.call_rows.specs.Rows.{before, decoded}
+use Rattle.call_rows.specs.Encoding.{rowWithNumber, encodedRow, blockIn, encodedFrom, encodedRows, encodedBytes, wordLimit, byteLimit, AllBelow, NumbersFit}
+
+-- ---- a row is decoded as its call
+
+number-back : (n first : ℕ) (bytes : List ℕ)
+    → decodedRow (rowWithNumber n first) bytes ≡ Option·map (λ (request : Request). callOf request []) (requested (rowWithNumber n first))
+unfolding decodedRow requestWithin
+number-back n first bytes = rw (le-leb 0 (length bytes) (omega arith))
+
+module _ (front rest : List ℕ) where
+  row-back : (call : Call) → decodedRow (encodedRow (length front) call) (front ++ (blockIn call ++ rest)) ≡ some call
+  unfolding encodedRow blockIn requested requestsByNumber decodedRow requestWithin
+  row-back (transferStart size) = number-back 0 size (front ++ rest)
+  row-back (transferData id counter block) =
+      let within : length front + length block ≤ length (front ++ (block ++ rest)) =
+      omega (arith, length-append front (block ++ rest), length-append block rest) in
+      let part : take (length block) (drop (length front) (front ++ (block ++ rest))) ≡ block =
+      rw (drop-append-seam front (block ++ rest), take-append-seam block rest) in
+      rw (le-leb (length front + length block) (length (front ++ (block ++ rest))) within, part)
+  row-back (transferExit id) = number-back 2 id (front ++ rest)
+  row-back (deleteTransfer id) = number-back 3 id (front ++ rest)
+  row-back (process id) = number-back 4 id (front ++ rest)
+  row-back (work n) = number-back 5 n (front ++ rest)
+  row-back (cancel id) = number-back 6 id (front ++ rest)
+  row-back revert = number-back 7 0 (front ++ rest)
+  row-back activate = number-back 8 0 (front ++ rest)
+  row-back rollback = number-back 9 0 (front ++ rest)
+  row-back finish = number-back 10 0 (front ++ rest)
+  row-back (report true) = number-back 11 1 (front ++ rest)
+  row-back (report false) = number-back 11 0 (front ++ rest)
+
+-- ---- and a list as its calls
+
+list-back : (front : List ℕ) (calls : List Call) → decoded (encodedFrom (length front) calls) (front ++ encodedBytes calls) ≡ some calls
+unfolding encodedFrom encodedBytes decoded
+list-back front [] = refl
+list-back front (call ∷ calls) =
+    let b = blockIn call in
+    let later : decoded (encodedFrom (length front + length b) calls) (front ++ (b ++ encodedBytes calls)) ≡ some calls =
+    rw (← append-assoc front b (encodedBytes calls), ← length-append front b) (list-back (front ++ b) calls) in
+    ap₂ before (row-back front (encodedBytes calls) call) later
+
+-- every list of calls has an encoding
+pub every-list : (calls : List Call) → decoded (encodedRows calls) (encodedBytes calls) ≡ some calls
+every-list calls = list-back [] calls
+
+-- ---- in words of 32 bits and bytes
+
+below-append : (limit : ℕ) (a b : List ℕ) → AllBelow limit a → AllBelow limit b → AllBelow limit (a ++ b)
+below-append limit [] b h rest k = rest k
+below-append limit (x ∷ a) b h rest zero = h 0
+below-append limit (x ∷ a) b h rest (suc k) = below-append limit a b (λ n. h (suc n)) rest k
+
+-- every word of a row fits
+record RowFits (r : Row) : Type 0 where
+  call : r .call < wordLimit
+  reserved : r .reserved < wordLimit
+  first : r .first < wordLimit
+  second : r .second < wordLimit
+  start : r .start < wordLimit
+  length : r .length < wordLimit
+
+-- a row before other words
+before-words : (r : Row) (words : List ℕ) → RowFits r → AllBelow wordLimit words
+    → AllBelow wordLimit (r .call ∷ r .reserved ∷ r .first ∷ r .second ∷ r .start ∷ r .length ∷ words)
+before-words r words f later zero = f .call
+before-words r words f later (suc zero) = f .reserved
+before-words r words f later (suc (suc zero)) = f .first
+before-words r words f later (suc (suc (suc zero))) = f .second
+before-words r words f later (suc (suc (suc (suc zero)))) = f .start
+before-words r words f later (suc (suc (suc (suc (suc zero))))) = f .length
+before-words r words f later (suc (suc (suc (suc (suc (suc k)))))) = later k
+
+number-fits : (n first : ℕ) → n < 12 → first < wordLimit → RowFits (rowWithNumber n first)
+number-fits n first few h =
+    record { call = omega arith; reserved = omega arith; first = h; second = omega arith; start = omega arith; length = omega arith }
+
+row-fits : (at : ℕ) (call : Call) → NumbersFit call → at + length (blockIn call) < wordLimit → RowFits (encodedRow at call)
+unfolding encodedRow blockIn NumbersFit
+row-fits at (transferStart size) h end = number-fits 0 size (omega arith) h
+row-fits at (transferData id counter block) h end =
+    record { call = omega arith; reserved = omega arith; first = h .0; second = h .1; start = omega arith; length = omega arith }
+row-fits at (transferExit id) h end = number-fits 2 id (omega arith) h
+row-fits at (deleteTransfer id) h end = number-fits 3 id (omega arith) h
+row-fits at (process id) h end = number-fits 4 id (omega arith) h
+row-fits at (work n) h end = number-fits 5 n (omega arith) h
+row-fits at (cancel id) h end = number-fits 6 id (omega arith) h
+row-fits at revert h end = number-fits 7 0 (omega arith) (omega arith)
+row-fits at activate h end = number-fits 8 0 (omega arith) (omega arith)
+row-fits at rollback h end = number-fits 9 0 (omega arith) (omega arith)
+row-fits at finish h end = number-fits 10 0 (omega arith) (omega arith)
+row-fits at (report true) h end = number-fits 11 1 (omega arith) (omega arith)
+row-fits at (report false) h end = number-fits 11 0 (omega arith) (omega arith)
+
+rows-fit : (at : ℕ) (calls : List Call) → ((call : Call) → List·Memᴰ call calls → NumbersFit call)
+    → at + length (encodedBytes calls) < wordLimit → AllBelow wordLimit (encodedFrom at calls)
+unfolding encodedFrom encodedBytes
+rows-fit at [] numbers end = λ k. omega arith
+rows-fit at (call ∷ calls) numbers end =
+    let long = length-append (blockIn call) (encodedBytes calls) in
+    let f = row-fits at call (numbers call (List·Memᴰ·head refl)) (omega arith) in
+    let later = rows-fit (at + length (blockIn call)) calls (λ other m. numbers other (List·Memᴰ·tail m)) (omega arith) in
+    before-words (encodedRow at call) (encodedFrom (at + length (blockIn call)) calls) f later
+
+-- the words of a list of calls fit 32 bits
+pub words-fit : (calls : List Call) → ((call : Call) → List·Memᴰ call calls → NumbersFit call) → length (encodedBytes calls) < wordLimit
+    → AllBelow wordLimit (encodedRows calls)
+words-fit calls numbers short = rows-fit 0 calls numbers (omega arith)
+
+-- and its bytes 8
+pub bytes-fit : (calls : List Call) → ((call : Call) → List·Memᴰ call calls → AllBelow byteLimit (blockIn call))
+    → AllBelow byteLimit (encodedBytes calls)
+unfolding encodedBytes
+bytes-fit [] blocks = λ k. omega arith
+bytes-fit (call ∷ calls) blocks =
+    below-append byteLimit (blockIn call) (encodedBytes calls) (blocks call (List·Memᴰ·head refl))
+    (bytes-fit calls λ other m. blocks other (List·Memᴰ·tail m))

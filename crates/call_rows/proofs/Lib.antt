@@ -1,0 +1,5 @@
+pub mod AnswerLaws
+pub mod RowLaws
+pub mod RowListLaws
+pub mod Encoding
+pub mod Examples

@@ -1,0 +1,14 @@
+-- `call_rows::row::request_if` meets its contract: the same test. Assumes nothing.
+use borrow.Author.Needs.{needs}
+use Rattle.base.proofs.Ladder.{ladder}
+use Rattle.call_rows.proofs.row.request_if.Statement.{statement}
+use Rattle.call_rows.proofs.row.request_if.Tie as tie
+
+returns : tie.Need-returns
+returns c = search ladder
+
+returns-2 : tie.Need-returns-2
+returns-2 c = search ladder
+
+pub request-if-spec : {M : Type 1} → statement M
+request-if-spec = tie.close (tie.spec returns returns-2)

@@ -1,0 +1,123 @@
+-- `call_rows::row::request_of` meets its contract: the reserved word first, then by the number of the call. Assumes nothing.
+use borrow.Author.Needs.{needs}
+use Rattle.call_rows.specs.Row.{requestsByNumber}
+use Rattle.call_rows.proofs.RowLaws.{reserved-used, by-number, no-such-call, past-five, past-eleven}
+use Rattle.call_rows.proofs.row.request_of.Statement.{statement}
+use Rattle.call_rows.proofs.row.request_of.Tie as tie
+
+returns : tie.Need-returns
+returns c = search reserved-used
+
+request-if-requires : tie.Need-request-if-requires
+request-if-requires c κs = search needs
+
+request-if-requires-2 : tie.Need-request-if-requires-2
+request-if-requires-2 c κs = search needs
+
+request-if-requires-3 : tie.Need-request-if-requires-3
+request-if-requires-3 c κs = search needs
+
+request-if-requires-4 : tie.Need-request-if-requires-4
+request-if-requires-4 c κs = search needs
+
+request-if-requires-5 : tie.Need-request-if-requires-5
+request-if-requires-5 c κs = search needs
+
+request-if-requires-6 : tie.Need-request-if-requires-6
+request-if-requires-6 c κs = search needs
+
+request-if-requires-7 : tie.Need-request-if-requires-7
+request-if-requires-7 c κs = search needs
+
+request-if-requires-8 : tie.Need-request-if-requires-8
+request-if-requires-8 c κs = search needs
+
+request-if-requires-9 : tie.Need-request-if-requires-9
+request-if-requires-9 c κs = search needs
+
+request-if-requires-10 : tie.Need-request-if-requires-10
+request-if-requires-10 c κs = search needs
+
+request-if-requires-11 : tie.Need-request-if-requires-11
+request-if-requires-11 c κs = search needs
+
+returns-2 : tie.Need-returns-2
+unfolding requestsByNumber
+returns-2 c = search by-number
+
+returns-3 : tie.Need-returns-3
+unfolding requestsByNumber
+returns-3 c = search by-number
+
+returns-4 : tie.Need-returns-4
+unfolding requestsByNumber
+returns-4 c = search by-number
+
+returns-5 : tie.Need-returns-5
+unfolding requestsByNumber
+returns-5 c = search by-number
+
+returns-6 : tie.Need-returns-6
+unfolding requestsByNumber
+returns-6 c = search by-number
+
+returns-7 : tie.Need-returns-7
+unfolding requestsByNumber
+returns-7 c = search by-number
+
+returns-8 : tie.Need-returns-8
+unfolding requestsByNumber
+returns-8 c = search by-number
+
+returns-9 : tie.Need-returns-9
+unfolding requestsByNumber
+returns-9 c = search by-number
+
+returns-10 : tie.Need-returns-10
+unfolding requestsByNumber
+returns-10 c = search by-number
+
+returns-11 : tie.Need-returns-11
+unfolding requestsByNumber
+returns-11 c = search by-number
+
+returns-12 : tie.Need-returns-12
+unfolding requestsByNumber
+returns-12 c = search by-number
+
+returns-13 : tie.Need-returns-13
+unfolding requestsByNumber
+returns-13 c = search by-number
+
+returns-14 : tie.Need-returns-14
+returns-14 c = search (no-such-call, past-five, past-eleven)
+
+pub request-of-spec : {M : Type 1} → statement M
+request-of-spec =
+    tie.close
+    (tie.spec
+    returns
+    request-if-requires
+    request-if-requires-2
+    request-if-requires-3
+    request-if-requires-4
+    request-if-requires-5
+    request-if-requires-6
+    request-if-requires-7
+    request-if-requires-8
+    request-if-requires-9
+    request-if-requires-10
+    request-if-requires-11
+    returns-2
+    returns-3
+    returns-4
+    returns-5
+    returns-6
+    returns-7
+    returns-8
+    returns-9
+    returns-10
+    returns-11
+    returns-12
+    returns-13
+    returns-14)

@@ -1,0 +1,97 @@
+// A call in numbers: a row of six words, and a block in a byte string that is lent beside the rows.
+use request::Request;
+ghost use mathlib.Core.Path.{_≡_};
+ghost use mathlib.Core.Bool.{cond};
+ghost use mathlib.Core.Option.{none, some};
+ghost use Prim.Native.Nat.{_+_, _≤_};
+ghost use lib.ListN.{length};
+ghost use Rattle.call_rows.specs.Row.{rowAt, blockOf, requestIn, requestIf, requested, requestWithin};
+
+// The number of the call, a word that is 0 and kept for later use, the call's two numbers, and the start and length of its block.
+pub struct Row {
+    pub call: u32,
+    pub reserved: u32,
+    pub first: u32,
+    pub second: u32,
+    pub start: u32,
+    pub length: u32,
+}
+
+// The request of a row, or that it has none.
+pub enum RowRequest {
+    WellFormed(Request),
+    Malformed,
+}
+
+// The row from the word i on. A list whose number of words was checked meets what is required.
+pub fn row_at(words: &[u32], i: usize) -> Row
+    requires { ⌜ i + 6 ≤ length (now words) ⌝ }
+    ensures { λ r. ⌜ r ≡ rowAt (now (words .entry)) i ⌝ }
+{
+    Row {
+        call: words[i],
+        reserved: words[i + 1],
+        first: words[i + 2],
+        second: words[i + 3],
+        start: words[i + 4],
+        length: words[i + 5],
+    }
+}
+
+// A request if what is demanded of its row holds.
+fn request_if(holds: bool, request: Request) -> RowRequest
+    ensures { λ r. ⌜ requestIn r ≡ requestIf holds request ⌝ }
+{
+    if holds {
+        return RowRequest::WellFormed(request);
+    }
+    RowRequest::Malformed
+}
+
+// The request that the words of a row say, wherever its block lies.
+fn request_of(row: Row) -> RowRequest
+    ensures { λ r. ⌜ requestIn r ≡ requested row ⌝ }
+{
+    if row.reserved != 0 {
+        return RowRequest::Malformed;
+    }
+    let first = row.first;
+    let one_number = (row.second == 0) & ((row.start == 0) & (row.length == 0));
+    let no_number = (first == 0) & one_number;
+    let call = row.call;
+    match call {
+        0 => request_if(one_number, Request::TransferStart(first)),
+        1 => RowRequest::WellFormed(Request::TransferData(first, row.second)),
+        2 => request_if(one_number, Request::TransferExit(first)),
+        3 => request_if(one_number, Request::DeleteTransfer(first)),
+        4 => request_if(one_number, Request::Process(first)),
+        5 => request_if(one_number, Request::Work(first)),
+        6 => request_if(one_number, Request::Cancel(first)),
+        7 => request_if(no_number, Request::Revert),
+        8 => request_if(no_number, Request::Activate),
+        9 => request_if(no_number, Request::Rollback),
+        10 => request_if(no_number, Request::Finish),
+        11 => request_if((first <= 1) & one_number, Request::Report(first == 1)),
+        _ => RowRequest::Malformed,
+    }
+}
+
+// The request of a row whose block lies within a byte string of a length.
+pub fn row_request(row: Row, room: usize) -> RowRequest
+    ensures { λ r. ⌜ requestIn r ≡ requestWithin row room ⌝ }
+{
+    if row.start as u64 + row.length as u64 > room as u64 {
+        return RowRequest::Malformed;
+    }
+    request_of(row)
+}
+
+// The block of a row: the part of the byte string itself. A row that has a request meets what is required.
+pub fn row_block(row: Row, bytes: &[u8]) -> &[u8]
+    requires { ⌜ row .start + row .length ≤ length (now bytes) ⌝ }
+    ensures { λ r. ⌜ now r ≡ blockOf row (now (bytes .entry)) ⌝ }
+{
+    let start = row.start as usize;
+    let end = start + row.length as usize;
+    &bytes[start..end]
+}

@@ -15,7 +15,6 @@ use prog.Memory.{Memory}
 use prog.Routine.{Routine}
 use prog.Wp.{Heap, Calls, Loops, WpFn, Tables}
 use ghost.Atoms.{Atoms, sem}
-use contract.Lifetimes.{Lfts}
 use contract.Monad.{Fun, fact}
 use contract.Running.{givenOf, tables, tablesOf}
 use types.Kit.{Given, ‵, raw, _⊛_, ⋆, some, later, _$_, _∵_, !, qed, by, move, keep, use1, use2, split, join, pick, fsplit, fjoin, suffices, frame, await, done}
@@ -45,6 +44,7 @@ use Rattle.text.specs.declared.cursor.Cursor.{Cursor}
 use Rattle.text.proofs.cursor.Cursor as N
 use Rattle.text.proofs.cursor.Cursor.Laws as N′
 use Rattle.rows.specs.declared.reader.LineReader.{LineReader}
+use Rattle.rows.proofs.ReaderParts.{Reader, readerVal}
 use Rattle.rows.proofs.reader.LineReader as T
 use Rattle.rows.proofs.reader.LineReader.Laws as T′
 use Rattle.rows.proofs.reader.read_cell as read-cell
@@ -55,10 +55,6 @@ use Rattle.rows.proofs.reader.cell_at.Key.{name as #cell-at}
 use Rattle.rows.proofs.reader.cell_at as cell-at
 use Rattle.rows.proofs.reader.cell_at.Statement as stated
 use Rattle.rows.proofs.reader.cell_at.Code as code
-
--- the reader's type, over the signature's lifetimes
-abbrev B : Lfts 1 → RattleType
-B κs = T.the-row (namedLft 1 0 tt κs)
 
 abbrev stayed : Stays (cell-at.ended .signature .params) (cell-at.ended .kept)
 stayed = (stay-dropped (shrSliceOf (0 ∷ []) tt (plain (λ _. u8))) yes, (stay-dropped (plain (λ _. N.the-row)) yes, (stay-dropped (plain (λ _. usize)) yes, tt)))
@@ -81,7 +77,7 @@ module _ {M : Type 1} (𝓤 : URA M) (H : Heap 𝓤) (A : Atoms 𝓤) (W : Given
   d = record { text = s; at = c .at }
 
   abbrev mach : Val
-  mach = T′.lowered d
+  mach = readerVal d
 
   at-fits : c .at < 2 ^ 64
   at-fits = LL.owed N.the-type N′.the-laws c _ is-c .0 .1
@@ -112,9 +108,9 @@ module _ {M : Type 1} (𝓤 : URA M) (H : Heap 𝓤) (A : Atoms 𝓤) (W : Given
   abbrev to : Callee 𝓤 H A mem run .Ghost
   to = (((κ, tt), (q, tt), tt, (d, (n, tt)), (mach ∷ [], (vint w64 n ∷ [], tt))), tt)
 
-  goes : ent 𝓤 (⋆ 𝓤 H A (‵ (B (κ, tt) .own d (mach ∷ [])) ∷ (‵ (flft κ q) ⊛ ‵ ftrue) ∷ [])) (Callee 𝓤 H A mem run .pre to)
+  goes : ent 𝓤 (⋆ 𝓤 H A (‵ (Reader (κ, tt) .own d (mach ∷ [])) ∷ (‵ (flft κ q) ⊛ ‵ ftrue) ∷ [])) (Callee 𝓤 H A mem run .pre to)
   goes =
-      qed W (‵ (B (κ, tt) .own d (mach ∷ [])) ∷ (‵ (flft κ q) ⊛ ‵ ftrue) ∷ []) ∵
+      qed W (‵ (Reader (κ, tt) .own d (mach ∷ [])) ∷ (‵ (flft κ q) ⊛ ‵ ftrue) ∷ []) ∵
       nothing ! $ owned ! usize (Is usize) (uint-makes 𝓤 H A W w64) n _ (refl, n-fits) $ fjoin ! $ move ! (1 ∷ 0 ∷ []) $ fjoin ! $ move ! (1 ∷ 0 ∷ []) $ join ! $ frame ! $ done !
 
   said : (r : RefT (List ℕ)) → ent 𝓤 (ensured 𝓤 H A read-cell.ended (read-cell.clauses 𝓤 H A mem run) (κ, tt) (d, (n, tt)) tt r) (fact 𝓤 (now r ≡ found))
@@ -136,7 +132,7 @@ module _ {M : Type 1} (𝓤 : URA M) (H : Heap 𝓤) (A : Atoms 𝓤) (W : Given
         assigns ! (agg ! (and-then ! (load ! (from ! (stop !)) (look ! 8 refl)) (and-then ! (load ! (from ! (fld ! refl (stop !))) (look-in ! 6 (sub ! 0 refl (whole !)))) (no-more !)))) (from ! (stop !)) (init ! 2 refl mach-typed) $
         assigns ! (of-opd ! (load ! (from ! (stop !)) (look ! 2 refl))) (from ! (stop !)) (init ! 0 refl mach-typed) $
         move ! (13 ∷ []) $ fsplit ! $ nothing ! $ owned ! usize (Is usize) (uint-makes 𝓤 H A W w64) (c .at) _ (refl, at-fits) $ fjoin ! $ move ! (1 ∷ 0 ∷ []) $ fjoin ! $
-        use1 W (‵ (B (κ, tt) .own d (mach ∷ []))) (own-shut 𝓤 H A W (T.the-type (namedLft 1 0 tt (κ, tt))) (T′.the-laws (namedLft 1 0 tt (κ, tt))) (s, (c .at, tt))) $
+        use1 W (‵ (Reader (κ, tt) .own d (mach ∷ []))) (own-shut 𝓤 H A W (T.the-type (namedLft 1 0 tt (κ, tt))) (T′.the-laws (namedLft 1 0 tt (κ, tt))) (s, (c .at, tt))) $
         -- [what the reader owns; what the other parameters own; _5; …; the token]
         move ! (0 ∷ 14 ∷ []) $ use2 W (raw (Callee 𝓤 H A mem run .pre to)) goes $
         calls-at ! fm (Callee 𝓤 H A mem run) known to (and-then ! (load ! (from ! (stop !)) (look ! 2 refl)) (and-then ! (load ! (from ! (stop !)) (look ! 6 refl)) (no-more !))) (λ u.

@@ -1,5 +1,6 @@
 // A case is a call, or a TransferStart on the state changed to one that is not sound, or shows the store.
 use crate::answers::shown;
+use crate::package_list::show_packages;
 use crate::unsound::made_unsound;
 use cases::case::field;
 use cases::case::kind_of;
@@ -41,8 +42,8 @@ pub fn make_call(s: State, store: &mut [u8], case: &[u8]) -> State {
     show::with_fields(sentence, case);
     let kind = kind_of(
         sentence,
-        b"load, first id %:;start %:;data % %:;exit %:;delete %:;payload %:;store:;unsound, %:;",
-        8,
+        b"load, first id %:;start %:;data % %:;exit %:;delete %:;payload %:;store:;unsound, %:;packages, room %:;",
+        9,
     );
     let first = number_of(field(case, 1));
     match kind {
@@ -61,6 +62,10 @@ pub fn make_call(s: State, store: &mut [u8], case: &[u8]) -> State {
         }
         7 => {
             shown(transfer_start(made_unsound(s, number_of(field(case, 2))), store, 1));
+            s
+        }
+        8 => {
+            show_packages(s, store, first as usize);
             s
         }
         _ => {

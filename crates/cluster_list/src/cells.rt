@@ -4,7 +4,7 @@ ghost use lib.ListN.{drop};
 ghost use Rattle.cluster_list.specs.Cells.{partField, needOf, needFields};
 use clusters::cluster::Need;
 use rows::columns::ClusterColumns;
-use rows::field::cell_at;
+use rows::reader::cell_at;
 use text::cursor::Cursor;
 use text::number::Number;
 use text::number::whole_number;

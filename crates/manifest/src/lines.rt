@@ -11,7 +11,7 @@ use cluster_list::cells::need_fields;
 use clusters::cluster::Need;
 use rows::columns::ClusterColumns;
 use rows::columns::PackageColumns;
-use rows::field::cell_is_empty;
+use rows::reader::cell_is_empty;
 use text::cursor::Cursor;
 
 // What reading a value line behind the first finds.

@@ -28,7 +28,7 @@ use rows::columns::PackageColumns;
 use rows::columns::PackageColumnsRead;
 use rows::columns::package_columns;
 use rows::line::Line;
-use rows::line::line_at;
+use rows::reader::line_at;
 use text::cursor::Cursor;
 use text::version::Version;
 

@@ -1,3 +1,4 @@
 pub mod Copied
 pub mod Lent
+pub mod PackagesArray
 pub mod Reported

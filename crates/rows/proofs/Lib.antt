@@ -8,6 +8,7 @@ pub mod LineBounds
 pub mod LineBack
 pub mod ColumnMeaning
 pub mod NamesLine
+pub mod ReaderParts
 pub mod Totals
 pub mod LineBytes
 pub mod NamesOnce

@@ -2,7 +2,7 @@
 ghost use mathlib.Core.Path.{_≡_};
 ghost use lib.ListN.{drop};
 ghost use Rattle.rows.specs.Columns.{columnFrom, clusterColumns, packageColumns};
-use crate::field::cell_at;
+use crate::reader::cell_at;
 use text::cursor::Cursor;
 use text::word::is_word;
 

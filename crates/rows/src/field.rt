@@ -2,8 +2,7 @@
 ghost use mathlib.Core.Path.{_≡_};
 ghost use Prim.Native.Nat.{_+_, _≤_};
 ghost use lib.ListN.{length, drop};
-ghost use Rattle.rows.specs.Field.{field, behindField, cell, isEmpty, Start};
-use text::cursor::Cursor;
+ghost use Rattle.rows.specs.Field.{field, behindField, cell, Start};
 
 // The position of the first comma or LF from a position on, or the end. Its callers here give a position within the text.
 fn field_end(s: &[u8], from: usize) -> usize
@@ -37,11 +36,11 @@ fn behind_field(s: &[u8], from: usize) -> usize
     end
 }
 
-// Where field number k of a line begins; the end where there is none.
-fn cell_start(s: &[u8], line: Cursor, k: usize) -> usize
-    ensures { λ r. ⌜ (r ≤ length (now (s .entry))) × (field (drop r (now (s .entry))) ≡ cell k (drop (line .at) (now (s .entry)))) ⌝ }
+// Where field number k of the line at a position begins; the end where there is none.
+fn cell_start(s: &[u8], at: usize, k: usize) -> usize
+    ensures { λ r. ⌜ (r ≤ length (now (s .entry))) × (field (drop r (now (s .entry))) ≡ cell k (drop at (now (s .entry)))) ⌝ }
 {
-    let mut from = line.at;
+    let mut from = at;
     if s.len() < from {
         from = s.len();
     }
@@ -53,22 +52,11 @@ fn cell_start(s: &[u8], line: Cursor, k: usize) -> usize
     from
 }
 
-// Field number k of the line at a cursor, counted from 0: the part of the text itself.
-pub fn cell_at(s: &[u8], line: Cursor, k: usize) -> &[u8]
-    ensures { λ r. ⌜ now r ≡ cell k (drop (line .at) (now (s .entry))) ⌝ }
+// Field number k of the line at a position, counted from 0: the part of the text itself.
+pub fn cell_from(s: &[u8], at: usize, k: usize) -> &[u8]
+    ensures { λ r. ⌜ now r ≡ cell k (drop at (now (s .entry))) ⌝ }
 {
-    let from = cell_start(s, line, k);
+    let from = cell_start(s, at, k);
     let to = field_end(s, from);
     &s[from..to]
-}
-
-// Whether field number k of the line at a cursor is empty.
-pub fn cell_is_empty(s: &[u8], line: Cursor, k: usize) -> bool
-    ensures { λ r. ⌜ r ≡ isEmpty (cell k (drop (line .at) (now (s .entry)))) ⌝ }
-{
-    let field = cell_at(s, line, k);
-    if field.len() < 1 {
-        return true;
-    }
-    false
 }

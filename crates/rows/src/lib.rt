@@ -2,3 +2,4 @@
 pub mod columns;
 pub mod field;
 pub mod line;
+pub mod reader;

@@ -10,12 +10,12 @@ pub enum Line {
     IllFormed,
 }
 
-// The line at a cursor, which has one field more than commas.
-pub fn line_at(s: &[u8], cursor: Cursor, commas: usize) -> Line
-    ensures { λ r. ⌜ r ≡ lineFrom commas (cursor .at) (drop (cursor .at) (now (s .entry))) ⌝ }
+// The line at a position, which has one field more than commas.
+pub fn line_from(s: &[u8], at: usize, commas: usize) -> Line
+    ensures { λ r. ⌜ r ≡ lineFrom commas at (drop at (now (s .entry))) ⌝ }
 {
     let mut left = commas;
-    let mut i = cursor.at;
+    let mut i = at;
     while i < s.len() {
         let b = s[i];
         if b == b'\n' {

@@ -39,7 +39,6 @@ use denote.Triple.Clauses.{ensured, lasts}
 use denote.Triple.Table.{entered, cited}
 use denote.Triple.Walked.{says, onExit, Stays, stay-dropped, gave-slice, walkOf, goes-dropped, goes-gave-slice, Walks, ends-at, walked, walk-meets}
 use denote.Exit.{yes}
-use Rattle.base.proofs.Counted.{unmapped}
 use Rattle.model.specs.State.{Store}
 use Rattle.model.specs.Sound.{packagesMost}
 use Rattle.model.specs.Reading.{packagesReport, reportBuffer}
@@ -47,8 +46,6 @@ use Rattle.state.specs.declared.state.State.{State}
 use Rattle.state.specs.View.{viewState}
 use Rattle.state.proofs.state.State as G
 use Rattle.state.proofs.state.State.Laws as G′
-use Rattle.state.proofs.transfers.Transfers as N
-use Rattle.state.proofs.transfers.Transfers.Laws as N′
 use Rattle.package_records.specs.declared.Record.{Record}
 use Rattle.package_records.specs.Records.{recordsOf}
 use Rattle.package_records.proofs.Record as R
@@ -58,6 +55,7 @@ use Rattle.reading_reply.proofs.ReadingReply as S
 use Rattle.reading_reply.proofs.ReadingReply.Laws as S′
 use Rattle.packages_report.specs.declared.report.PackagesReport.{PackagesReport}
 use Rattle.packages_report.specs.Packages.{packagesReply, reportWith, filledFrom, listed, viewList, packagesGiven}
+use Rattle.packages_report.proofs.PackagesArray.{packages-array}
 use Rattle.packages_report.proofs.Reported.{packages-given}
 use Rattle.packages_report.proofs.report.PackagesReport as T
 use Rattle.packages_report.proofs.report.PackagesReport.Laws as T′
@@ -110,7 +108,7 @@ module _ {M : Type 1} (𝓤 : URA M) (H : Heap 𝓤) (A : Atoms 𝓤) (W : Given
 
   -- the packages of the state are an array
   long : length (m .transfers .packages) ≡ packagesMost
-  long = unmapped _ _ _ (m .transfers .packages) packagesMost (LL.owed N.the-type N′.the-laws (m .transfers) _ (LL.owed G.the-type G′.the-laws m _ is-m .1 .0) .0 .1 .0 .1)
+  long = packages-array m _ is-m
 
   abbrev Arg : Type 0
   Arg = RefT (List Record) × (State × (RefT (List ℕ) × Unit {0}))

@@ -52,15 +52,12 @@ use denote.Triple.Table.{entered, cited}
 use denote.Triple.Walked.{says, onExit, Stays, stay-dropped, walkOf, goes-dropped, Walks, ends-at, walked, walk-meets}
 use denote.Exit.{yes}
 use borrow.Table.Elements.{at as past, same-len, cut-app, join-app}
-use Rattle.base.proofs.Counted.{unmapped}
 use Rattle.model.specs.Sound.{packagesMost}
 use Rattle.model.specs.Reading.{packagesReport, reportBuffer}
 use Rattle.state.specs.declared.state.State.{State}
 use Rattle.state.specs.View.{viewState}
 use Rattle.state.proofs.state.State as G
 use Rattle.state.proofs.state.State.Laws as G′
-use Rattle.state.proofs.transfers.Transfers as N
-use Rattle.state.proofs.transfers.Transfers.Laws as N′
 use Rattle.package_records.specs.declared.Record.{Record}
 use Rattle.package_records.specs.Records.{clearedRecord}
 use Rattle.package_records.proofs.Record as R
@@ -71,6 +68,7 @@ use Rattle.reading_reply.proofs.ReadingReply as S
 use Rattle.reading_reply.proofs.ReadingReply.Laws as S′
 use Rattle.packages_report.specs.declared.by_value.PackagesByValue.{PackagesByValue}
 use Rattle.packages_report.specs.Packages.{listed, listMost, packagesReply, viewList, packagesGiven, roomWithin}
+use Rattle.packages_report.proofs.PackagesArray.{packages-array}
 use Rattle.packages_report.proofs.Lent.{room-within-most, lent-given}
 use Rattle.packages_report.proofs.by_value.PackagesByValue as T
 use Rattle.packages_report.proofs.by_value.PackagesByValue.Laws as T′
@@ -180,7 +178,7 @@ module _ {M : Type 1} (𝓤 : URA M) (H : Heap 𝓤) (A : Atoms 𝓤) (W : Given
   n-fits = omega (arith, room-within-most room)
 
   long : length (m .transfers .packages) ≡ packagesMost
-  long = unmapped _ _ _ (m .transfers .packages) packagesMost (LL.owed N.the-type N′.the-laws (m .transfers) _ (LL.owed G.the-type G′.the-laws m _ is-m .1 .0) .0 .1 .0 .1)
+  long = packages-array m _ is-m
 
   abbrev Arg : Type 0
   Arg = State × (RefT (List ℕ) × (ℕ × Unit {0}))

@@ -13,10 +13,10 @@ use Rattle.rows.proofs.field.cell_start.Statement.{statement}
 use Rattle.rows.proofs.field.cell_start.Tie as tie
 
 abbrev Inv-loop : tie.InvT-loop
-Inv-loop s k from₀ i₀ from i = (from ≤ length s) × (cell k (drop from₀ s) ≡ cell (k - i) (drop from s))
+Inv-loop s at k from₀ i₀ from i = (from ≤ length s) × (cell k (drop from₀ s) ≡ cell (k - i) (drop from s))
 
 abbrev μ-loop : tie.MeasureT-loop
-μ-loop s k from₀ i₀ from i = k - i
+μ-loop s at k from₀ i₀ from i = k - i
 
 loop-holds : tie.Need-loop-holds Inv-loop μ-loop
 loop-holds c = (⊎-elim (λ w. omega arith) (λ w. omega arith) (c .if1 .came), rw sub-zero)

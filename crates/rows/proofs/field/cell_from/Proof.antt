@@ -1,9 +1,9 @@
--- `rows::field::cell_at` meets its contract: the part from where the field begins to where it ends. Assumes nothing.
+-- `rows::field::cell_from` meets its contract: the part from where the field begins to where it ends. Assumes nothing.
 use native.Mathlib.Omega.{arith}
 use borrow.Author.Needs.{needs}
 use Rattle.rows.proofs.FieldLaws.{field-within, field-part}
-use Rattle.rows.proofs.field.cell_at.Statement.{statement}
-use Rattle.rows.proofs.field.cell_at.Tie as tie
+use Rattle.rows.proofs.field.cell_from.Statement.{statement}
+use Rattle.rows.proofs.field.cell_from.Tie as tie
 
 cell-start-requires : tie.Need-cell-start-requires
 cell-start-requires c κs = search needs
@@ -25,8 +25,8 @@ part-result-end c =
 returns : tie.Need-returns
 returns c = search field-part
 
-pub cell-at-spec : {M : Type 1} → statement M
-cell-at-spec =
+pub cell-from-spec : {M : Type 1} → statement M
+cell-from-spec =
     tie.close
     (tie.spec
     cell-start-requires

@@ -1,4 +1,4 @@
--- `rows::line::line_at` meets its contract. Invariant: the line is what goes on at `i` with `left` commas to come.
+-- `rows::line::line_from` meets its contract. Invariant: the line is what goes on at `i` with `left` commas to come.
 -- Measure: the bytes left. Assumes nothing.
 use Prim.Native.Nat.{_-_}
 use mathlib.Core.Path.{_≡_}
@@ -7,14 +7,14 @@ use lib.ListN.{length, drop}
 use borrow.Author.Needs.{needs}
 use Rattle.rows.specs.Line.{lineFrom}
 use Rattle.rows.proofs.LineLaws.{line-over, line-ends, line-short, line-long, line-comma, line-byte}
-use Rattle.rows.proofs.line.line_at.Statement.{statement}
-use Rattle.rows.proofs.line.line_at.Tie as tie
+use Rattle.rows.proofs.line.line_from.Statement.{statement}
+use Rattle.rows.proofs.line.line_from.Tie as tie
 
 abbrev Inv-loop : tie.InvT-loop
-Inv-loop s commas left₀ i₀ left i = lineFrom left₀ i₀ (drop i₀ s) ≡ lineFrom left i (drop i s)
+Inv-loop s at commas left₀ i₀ left i = lineFrom left₀ i₀ (drop i₀ s) ≡ lineFrom left i (drop i s)
 
 abbrev μ-loop : tie.MeasureT-loop
-μ-loop s commas left₀ i₀ left i = length s - i
+μ-loop s at commas left₀ i₀ left i = length s - i
 
 loop-holds : tie.Need-loop-holds Inv-loop μ-loop
 loop-holds c = search needs
@@ -49,8 +49,8 @@ loop-again c = ⊎-elim (λ w. search line-comma) (λ w. search line-byte) (c .i
 returns-4 : tie.Need-returns-4 Inv-loop μ-loop
 returns-4 c = search line-over
 
-pub line-at-spec : {M : Type 1} → statement M
-line-at-spec =
+pub line-from-spec : {M : Type 1} → statement M
+line-from-spec =
     tie.close
     (tie.spec
     Inv-loop

@@ -1,8 +1,8 @@
--- `rows::field::cell_is_empty` meets its contract: an empty field has no byte. Assumes nothing.
+-- `rows::reader::cell_is_empty` meets its contract: an empty field has no byte. Assumes nothing.
 use borrow.Author.Needs.{needs}
 use Rattle.rows.proofs.Empty.{field-tests}
-use Rattle.rows.proofs.field.cell_is_empty.Statement.{statement}
-use Rattle.rows.proofs.field.cell_is_empty.Tie as tie
+use Rattle.rows.proofs.reader.cell_is_empty.Statement.{statement}
+use Rattle.rows.proofs.reader.cell_is_empty.Tie as tie
 
 cell-at-requires : tie.Need-cell-at-requires
 cell-at-requires c κs = search needs

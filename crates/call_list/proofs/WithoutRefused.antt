@@ -1,0 +1,78 @@
+-- The list without its refused calls, on the code's structs: the other calls have the same answers, and the state, as a struct, and the
+-- store at the end are equal. It holds of every step whose refusals give back what they were handed. Assumes nothing.
+use Prim.Native.Nat.{ℕ}
+use mathlib.Core.Path.{_≡_, refl, sym, ap, ap₂, _∙_}
+use mathlib.Core.List.{List, [], _∷_}
+use mathlib.Core.Option.{Option, none, some}
+use Rattle.base.specs.Refusals.{firstRefusal}
+use Rattle.model.specs.State.{Store}
+use Rattle.model.specs.Calls.{Call, Reply, refused, accepted}
+use Rattle.model.specs.Step.{refusals}
+use Rattle.state.specs.declared.state.State.{State}
+use Rattle.state.specs.View.{viewState}
+use Rattle.state.specs.Outcome.{Outcome, replyOf, settled, called}
+use Rattle.call_list.specs.Run.{Step, Made, Run, made, ran, runBy, acceptedOnly, callsOf, RefusedGivesBack, SameWithoutRefused}
+
+-- ---- one call that is refused or accepted
+
+module _ (m : Made) (later : List Made) where
+  abbrev kept : Reply → List Made
+  kept reply = elim reply [ refused number ↦ acceptedOnly later | accepted answer ↦ m ∷ acceptedOnly later ]
+
+  accepted-first : (reply : Reply) → replyOf (m .answer) ≡ reply → acceptedOnly (m ∷ later) ≡ kept reply
+  unfolding acceptedOnly
+  accepted-first reply e = ap kept e
+
+module _ (step : Step) (s : State) (store : Store) (call : Call) (calls : List Call) where
+  abbrev o : Outcome
+  o = step s store call
+
+  abbrev m : Made
+  m = made call (o .answered .answer)
+
+  abbrev later : Run
+  later = runBy step (o .answered .state) (o .store) calls
+
+  -- the list behind a first call
+  behind : RefusedGivesBack step → SameWithoutRefused step (o .answered .state) (o .store) calls → (reply : Reply)
+      → replyOf (o .answered .answer) ≡ reply
+      → runBy step s store (callsOf (acceptedOnly (m ∷ later .made))) ≡ ran (acceptedOnly (m ∷ later .made)) (later .state) (later .store)
+  unfolding runBy
+  behind back ih (refused number) e =
+      let given = back s store call number e in
+      let dropped = accepted-first m (later .made) (refused number) e in
+      ap (λ (l : List Made). runBy step s store (callsOf l)) dropped
+      ∙ ap₂ (λ (s′ : State) (store′ : Store). runBy step s′ store′ (callsOf (acceptedOnly (later .made)))) (sym (given .0)) (sym (given .1))
+      ∙ ih
+      ∙ ap (λ (l : List Made). ran l (later .state) (later .store)) (sym dropped)
+  behind back ih (accepted answer) e =
+      let stays = accepted-first m (later .made) (accepted answer) e in
+      ap (λ (l : List Made). runBy step s store (callsOf l)) stays
+      ∙ ap (λ (r : Run). ran (m ∷ r .made) (r .state) (r .store)) ih
+      ∙ ap (λ (l : List Made). ran l (later .state) (later .store)) (sym stays)
+
+-- ---- a list of calls
+
+pub without-refused : (step : Step) → RefusedGivesBack step → (s : State) (store : Store) (calls : List Call)
+    → SameWithoutRefused step s store calls
+unfolding runBy acceptedOnly
+without-refused step back s store [] = refl
+without-refused step back s store (call ∷ calls) =
+    let o = step s store call in
+    behind step s store call calls back (without-refused step back (o .answered .state) (o .store) calls) (replyOf (o .answered .answer)) refl
+
+-- ---- calls whose refusals are the model's
+
+-- they give back what they were handed, where what is given without a refusal is no refusal
+pub called-gives-back : (accepts : Step)
+    → ((s : State) (store : Store) (call : Call) (number : ℕ) → firstRefusal (refusals (viewState s) store call) ≡ none
+    → replyOf (accepts s store call .answered .answer) ≡ refused number → ⊥)
+    → RefusedGivesBack (λ s store call. called s store call (accepts s store call))
+unfolding called settled
+called-gives-back accepts never s store call number e = go (firstRefusal (refusals (viewState s) store call)) refl e
+  where
+    go : (refusal : Option ℕ) → firstRefusal (refusals (viewState s) store call) ≡ refusal
+        → replyOf (settled s store refusal (accepts s store call) .answered .answer) ≡ refused number
+        → (settled s store refusal (accepts s store call) .answered .state ≡ s) × (settled s store refusal (accepts s store call) .store ≡ store)
+    go none is e = absurd (never s store call number is e)
+    go (some n) is e = (refl, refl)

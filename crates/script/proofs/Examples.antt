@@ -6,6 +6,7 @@ use mathlib.Core.Bool.{true, false}
 use mathlib.Core.List.{[], _∷_}
 use Rattle.base.specs.Quoted.{bytes}
 use Rattle.base.proofs.Tables.{_gives_, AllHold}
+use Rattle.request.specs.declared.Request.the-variants as call
 use Rattle.script.specs.declared.line.Line.{Line}
 use Rattle.script.specs.declared.line.Line.the-variants as line
 use Rattle.script.specs.Place.{place}
@@ -18,19 +19,19 @@ lineOf s = lineAt (bytes s) 0
 -- each line of the table
 lines-computed : AllHold lineOf
     ("load 1 4096 =a" gives line.Load 1 4096 (place 12 14)
-    ∷ "start 91" gives line.Start 91
+    ∷ "start 91" gives line.Call (call.TransferStart 91)
     ∷ "data 1 2 0aff" gives line.Data 1 2 (place 9 13)
-    ∷ "exit 3" gives line.Exit 3
-    ∷ "delete 4" gives line.Delete 4
-    ∷ "process 5" gives line.Process 5
-    ∷ "work 6" gives line.Work 6
-    ∷ "cancel 7" gives line.Cancel 7
-    ∷ "revert" gives line.Revert
-    ∷ "activate" gives line.Activate
-    ∷ "rollback" gives line.Rollback
-    ∷ "finish" gives line.Finish
-    ∷ "report good" gives line.Report true
-    ∷ "report bad" gives line.Report false
+    ∷ "exit 3" gives line.Call (call.TransferExit 3)
+    ∷ "delete 4" gives line.Call (call.DeleteTransfer 4)
+    ∷ "process 5" gives line.Call (call.Process 5)
+    ∷ "work 6" gives line.Call (call.Work 6)
+    ∷ "cancel 7" gives line.Call (call.Cancel 7)
+    ∷ "revert" gives line.Call call.Revert
+    ∷ "activate" gives line.Call call.Activate
+    ∷ "rollback" gives line.Call call.Rollback
+    ∷ "finish" gives line.Call call.Finish
+    ∷ "report good" gives line.Call (call.Report true)
+    ∷ "report bad" gives line.Call (call.Report false)
     ∷ "packages 8" gives line.Packages 8
     ∷ "clusters 9" gives line.Clusters 9
     ∷ "changes 10" gives line.Changes 10
@@ -50,7 +51,7 @@ rooms-computed : AllHold lineOf
     ("load 4294967295 1048576 =" gives line.Load 4294967295 1048576 (place 24 25)
     ∷ "load 4294967296 1 =" gives line.Unknown
     ∷ "load 1 1048577 =" gives line.Unknown
-    ∷ "start 4294967295" gives line.Start 4294967295
+    ∷ "start 4294967295" gives line.Call (call.TransferStart 4294967295)
     ∷ "start 4294967296" gives line.Unknown
     ∷ "data 0 4294967296 -" gives line.Unknown
     ∷ "poke 4294967296 -" gives line.Unknown

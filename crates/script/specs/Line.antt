@@ -7,6 +7,7 @@ use lib.Dec.{eqb, ltb}
 use Rattle.base.specs.Quoted.{bytes}
 use Rattle.text.specs.Word.{sameBytes}
 use Rattle.text.specs.Then.{andThen}
+use Rattle.request.specs.declared.Request.the-variants as call
 use Rattle.script.specs.declared.line.Line.{Line}
 use Rattle.script.specs.declared.line.Line.the-variants as line
 use Rattle.script.specs.Words.{wordAt, behindWord, numberWord, lastNumber}
@@ -74,9 +75,9 @@ roomLine w n =
 -- "`process ID`, `work N`, `cancel ID`"
 unfoldable pub processingLine : List ℕ → ℕ → Line
 processingLine w n =
-    cond (sameBytes w (bytes "process")) (line.Process n)
-    (cond (sameBytes w (bytes "work")) (line.Work n)
-    (cond (sameBytes w (bytes "cancel")) (line.Cancel n)
+    cond (sameBytes w (bytes "process")) (line.Call (call.Process n))
+    (cond (sameBytes w (bytes "work")) (line.Call (call.Work n))
+    (cond (sameBytes w (bytes "cancel")) (line.Call (call.Cancel n))
     (roomLine w n)))
 
 -- "`payload ID`", "`check ID`"
@@ -89,9 +90,9 @@ payloadLine w n =
 -- "`start SIZE`", "`exit ID`, `delete ID`"
 unfoldable pub transferLine : List ℕ → ℕ → Line
 transferLine w n =
-    cond (sameBytes w (bytes "start")) (line.Start n)
-    (cond (sameBytes w (bytes "exit")) (line.Exit n)
-    (cond (sameBytes w (bytes "delete")) (line.Delete n)
+    cond (sameBytes w (bytes "start")) (line.Call (call.TransferStart n))
+    (cond (sameBytes w (bytes "exit")) (line.Call (call.TransferExit n))
+    (cond (sameBytes w (bytes "delete")) (line.Call (call.DeleteTransfer n))
     (payloadLine w n)))
 
 -- ---- lines of fixed words
@@ -99,8 +100,8 @@ transferLine w n =
 -- "`report good`, `report bad`", "`progress`", "`store`"
 unfoldable pub showLine : List ℕ → Line
 showLine s =
-    cond (sameBytes s (bytes "report good")) (line.Report true)
-    (cond (sameBytes s (bytes "report bad")) (line.Report false)
+    cond (sameBytes s (bytes "report good")) (line.Call (call.Report true))
+    (cond (sameBytes s (bytes "report bad")) (line.Call (call.Report false))
     (cond (sameBytes s (bytes "progress")) line.Progress
     (cond (sameBytes s (bytes "store")) line.Store
     line.Unknown)))
@@ -108,10 +109,10 @@ showLine s =
 -- "`revert`, `activate`, `rollback`, `finish`"
 unfoldable pub sessionLine : List ℕ → Line
 sessionLine s =
-    cond (sameBytes s (bytes "revert")) line.Revert
-    (cond (sameBytes s (bytes "activate")) line.Activate
-    (cond (sameBytes s (bytes "rollback")) line.Rollback
-    (cond (sameBytes s (bytes "finish")) line.Finish
+    cond (sameBytes s (bytes "revert")) (line.Call call.Revert)
+    (cond (sameBytes s (bytes "activate")) (line.Call call.Activate)
+    (cond (sameBytes s (bytes "rollback")) (line.Call call.Rollback)
+    (cond (sameBytes s (bytes "finish")) (line.Call call.Finish)
     (showLine s))))
 
 -- ---- a line

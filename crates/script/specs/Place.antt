@@ -1,8 +1,8 @@
 -- The place of a line's bytes.
-use Prim.Native.Nat.{ℕ, _+_}
+use Prim.Native.Nat.{ℕ, _+_, _-_}
 use mathlib.Core.Bool.{cond}
-use mathlib.Core.List.{List}
-use lib.ListN.{length}
+use mathlib.Core.List.{List, []}
+use lib.ListN.{length, take, drop}
 use lib.Dec.{ltb}
 use Rattle.script_bytes.specs.declared.form.Form.{Form}
 use Rattle.script_bytes.specs.declared.form.Form.the-variants.{Digits, Nothing, Typed, IllFormed}
@@ -31,3 +31,7 @@ lastBlock s at =
 abbrev pub andThenBlock : {R : Type 0} → R → BlockRead → (Place → R) → R
 andThenBlock ill (block.At p) f = f p
 andThenBlock ill block.IllFormed f = ill
+
+-- the bytes of a line at a place; none where the place is not within it
+unfoldable pub partAt : List ℕ → Place → List ℕ
+partAt s p = cond (ltb (p .to) (p .from)) [] (cond (ltb (length s) (p .to)) [] (take (p .to - p .from) (drop (p .from) s)))

@@ -2,6 +2,7 @@
 ghost use mathlib.Core.Path.{_≡_};
 ghost use Rattle.script.specs.Line.{sessionLine, showLine};
 use crate::line::Line;
+use request::Request;
 use text::word::is_word;
 
 // Report, Progress and the line that shows the store.
@@ -9,10 +10,10 @@ fn show_line(s: &[u8]) -> Line
     ensures { λ r. ⌜ r ≡ showLine (now (s .entry)) ⌝ }
 {
     if is_word(s, b"report good") {
-        return Line::Report { good: true };
+        return Line::Call(Request::Report(true));
     }
     if is_word(s, b"report bad") {
-        return Line::Report { good: false };
+        return Line::Call(Request::Report(false));
     }
     if is_word(s, b"progress") {
         return Line::Progress;
@@ -28,16 +29,16 @@ pub fn session_line(s: &[u8]) -> Line
     ensures { λ r. ⌜ r ≡ sessionLine (now (s .entry)) ⌝ }
 {
     if is_word(s, b"revert") {
-        return Line::Revert;
+        return Line::Call(Request::Revert);
     }
     if is_word(s, b"activate") {
-        return Line::Activate;
+        return Line::Call(Request::Activate);
     }
     if is_word(s, b"rollback") {
-        return Line::Rollback;
+        return Line::Call(Request::Rollback);
     }
     if is_word(s, b"finish") {
-        return Line::Finish;
+        return Line::Call(Request::Finish);
     }
     show_line(s)
 }

@@ -13,25 +13,17 @@ use crate::place::last_block;
 use crate::words::last_number;
 use crate::words::number_word;
 use crate::words::word_end;
+use request::Request;
 use text::cursor::Cursor;
 use text::number::Number;
 use text::word::is_word;
 
-// The line of a call with its numbers and the place of its bytes, the two lines that are no call, a remark, or none of them.
+// A call with its numbers and the place of its bytes, one of the lines that are no call, or none of them.
 pub enum Line {
     Load { first: u32, store: u32, list: Place },
-    Start { size: u32 },
     Data { id: u32, counter: u32, block: Place },
-    Exit { id: u32 },
-    Delete { id: u32 },
-    Process { id: u32 },
-    Work { count: u32 },
-    Cancel { id: u32 },
-    Revert,
-    Activate,
-    Rollback,
-    Finish,
-    Report { good: bool },
+    // a call of the twelve but TransferData
+    Call(Request),
     Packages { room: u32 },
     Clusters { room: u32 },
     Changes { room: u32 },

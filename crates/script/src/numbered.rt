@@ -4,6 +4,7 @@ ghost use Rattle.script.specs.Line.{within, roomLine, processingLine, pa
 use crate::limits::RECORDS_MOST;
 use crate::limits::REPORT_MOST;
 use crate::line::Line;
+use request::Request;
 use text::word::is_word;
 
 // A line whose number is within its room.
@@ -37,13 +38,13 @@ fn processing_line(word: &[u8], n: u32) -> Line
     ensures { λ r. ⌜ r ≡ processingLine (now (word .entry)) n ⌝ }
 {
     if is_word(word, b"process") {
-        return Line::Process { id: n };
+        return Line::Call(Request::Process(n));
     }
     if is_word(word, b"work") {
-        return Line::Work { count: n };
+        return Line::Call(Request::Work(n));
     }
     if is_word(word, b"cancel") {
-        return Line::Cancel { id: n };
+        return Line::Call(Request::Cancel(n));
     }
     room_line(word, n)
 }
@@ -66,13 +67,13 @@ pub fn transfer_line(word: &[u8], n: u32) -> Line
     ensures { λ r. ⌜ r ≡ transferLine (now (word .entry)) n ⌝ }
 {
     if is_word(word, b"start") {
-        return Line::Start { size: n };
+        return Line::Call(Request::TransferStart(n));
     }
     if is_word(word, b"exit") {
-        return Line::Exit { id: n };
+        return Line::Call(Request::TransferExit(n));
     }
     if is_word(word, b"delete") {
-        return Line::Delete { id: n };
+        return Line::Call(Request::DeleteTransfer(n));
     }
     payload_line(word, n)
 }

@@ -1,6 +1,6 @@
 // Where the bytes of a line stand in it.
 ghost use mathlib.Core.Path.{_≡_};
-ghost use Rattle.script.specs.Place.{blockAt, lastBlock};
+ghost use Rattle.script.specs.Place.{blockAt, lastBlock, partAt};
 use crate::words::word_end;
 use script_bytes::form::Form;
 use script_bytes::form::form_of;
@@ -49,4 +49,19 @@ pub fn last_block(s: &[u8], cursor: Cursor) -> BlockRead
             to: end,
         },
     )
+}
+
+// The bytes of a line at a place; none where the place is not within it.
+pub fn part_at(s: &[u8], place: Place) -> &[u8]
+    ensures { λ r. ⌜ now r ≡ partAt (now (s .entry)) place ⌝ }
+{
+    let from = place.from;
+    let to = place.to;
+    if to < from {
+        return &s[0..0];
+    }
+    if s.len() < to {
+        return &s[0..0];
+    }
+    &s[from..to]
 }

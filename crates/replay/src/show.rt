@@ -1,0 +1,81 @@
+// Lines written to standard output. Each function says whether all was written.
+ghost use Prim.Native.Nat.{_+_, _≤_, _<_};
+ghost use lib.ListN.{length};
+use libc::STDOUT_FILENO;
+use script_answers::answer::put_answer;
+use script_answers::named::put_named;
+use script_bytes::hex::put_bytes_digits;
+use state::answer::Answer;
+
+// How many bytes are shown by one write.
+const PART: usize = 32768;
+
+pub fn show_text(text: &[u8]) -> bool {
+    io::write_all(STDOUT_FILENO, text)
+}
+
+pub fn show_unknown() -> bool {
+    show_text(b"unknown\n")
+}
+
+pub fn show_answer(answer: Answer) -> bool {
+    let mut line = [0u8; 20];
+    let end = put_answer(&mut line, answer);
+    show_text(&line[..end])
+}
+
+// A name of at most 20 bytes, as each caller's is, and a number.
+pub fn show_number(name: &[u8], n: u32) -> bool
+    requires { ⌜ length (now name) ≤ 20 ⌝ }
+{
+    let mut line = [0u8; 40];
+    let end = put_named(&mut line, 0, name, n);
+    show_text(&line[..end])
+}
+
+// The digits of bytes, of which there are at most as many as one write shows; `part_end` gives no more.
+fn show_part(part: &[u8]) -> bool
+    requires { ⌜ length (now part) ≤ 32768 ⌝ }
+{
+    let mut digits = [0u8; 2 * PART];
+    let end = put_bytes_digits(&mut digits, 0, part);
+    show_text(&digits[..end])
+}
+
+// The end of the part that begins at a position. `show_digits` gives a position within the bytes.
+fn part_end(at: usize, length: usize) -> usize
+    requires { ⌜ at < length ⌝ }
+    ensures { λ r. ⌜ (at < r) × (r ≤ length) × (r ≤ at + 32768) ⌝ }
+{
+    if length - at <= PART {
+        return length;
+    }
+    at + PART
+}
+
+// The digits of bytes, part by part.
+fn show_digits(bytes: &[u8]) -> bool {
+    let mut at = 0;
+    while at < bytes.len() {
+        let end = part_end(at, bytes.len());
+        if !show_part(&bytes[at..end]) {
+            return false;
+        }
+        at = end;
+    }
+    true
+}
+
+// A name and bytes as `HEX`: their digits, or `-`.
+pub fn show_bytes(name: &[u8], bytes: &[u8]) -> bool {
+    if !show_text(name) {
+        return false;
+    }
+    if bytes.len() == 0 {
+        return show_text(b"-\n");
+    }
+    if !show_digits(bytes) {
+        return false;
+    }
+    show_text(b"\n")
+}

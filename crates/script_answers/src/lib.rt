@@ -1,0 +1,3 @@
+// The answers of the program `replay` as text: a line each, put into a lent buffer.
+pub mod answer;
+pub mod named;

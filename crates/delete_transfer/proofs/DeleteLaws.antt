@@ -7,7 +7,7 @@ use Rattle.base.specs.Refusals.{firstRefusal}
 use Rattle.model.specs.State as model
 use Rattle.model.specs.State.{Store}
 use Rattle.model.specs.Calls.{deleteTransfer}
-use Rattle.model.specs.Step.{ownRefusals, refusals, act}
+use Rattle.model.specs.Step.{ownRefusals, refusals, act, deleteRefusals}
 use Rattle.model.proofs.soundness.Accepted.{passed-over, accepted-sound}
 use Rattle.model.proofs.soundness.Packages.{found-known, found-is}
 use Rattle.state.specs.declared.state.State.{State}
@@ -19,13 +19,13 @@ use Rattle.areas.specs.Deletion.{remainingTransfers}
 use Rattle.areas.specs.Changed.{packageAt}
 use Rattle.areas.proofs.FoundPackage.{count-fits, FoundAt}
 use Rattle.areas.proofs.Kept.{view-remaining}
-use Rattle.delete_transfer.specs.Delete.{deleteRefusals, withoutTransfer}
+use Rattle.delete_transfer.specs.Delete.{withoutTransfer}
 
 module _ (s : State) (store : Store) (id : ℕ) where
   -- its refusals are the model's
   pub delete-own : (i : ℕ) → FoundAt s store id i
       → firstRefusal (ownRefusals (viewState s) store (deleteTransfer id)) ≡ firstRefusal (deleteRefusals (viewPackageState (packageAt (s .transfers) i .state)))
-  unfolding deleteRefusals ownRefusals
+  unfolding ownRefusals
   delete-own i found =
       let ps = viewPackages (s .transfers) in
       passed-over _ _ (found-known id ps _ (found .known)) ∙ rw (found-is id ps _ (found .known))

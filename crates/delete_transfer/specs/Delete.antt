@@ -13,10 +13,6 @@ use Rattle.state.specs.Outcome.{Outcome, outcome, answered}
 use Rattle.areas.specs.declared.deletion.Deletion.the-variants.{WithId}
 use Rattle.areas.specs.Deletion.{keeps, remainingTransfers}
 
--- its own refusal behind 4, by the state of its package: "5. WrongPackageState: .. Delete on Processing or Processed"
-unfoldable pub deleteRefusals : PackageState → List Refusal
-deleteRefusals state = (refuse 5 when (isBeingProcessed state || isProcessed state)) ∷ []
-
 -- "DeleteTransfer(id)."; "Deleting moves later areas down whole and fills the bytes between the new and the old end of the last area
 -- with 0"
 abbrev pub withoutTransfer : State → Store → ℕ → Outcome

@@ -28,10 +28,10 @@ ghost use Rattle.base.specs.Refusals.{firstRefusal, numberOrZero};
 ghost use Rattle.model.specs.Areas.{declared};
 ghost use Rattle.model.specs.Calls.{deleteTransfer};
 ghost use Rattle.model.specs.Sound.{packagesMost, soundFor};
-ghost use Rattle.model.specs.Step.{step};
+ghost use Rattle.model.specs.Step.{step, deleteRefusals};
 ghost use Rattle.state.specs.View.{viewPackageState, viewPackages, viewState};
 ghost use Rattle.state.specs.Outcome.{outcome, viewOutcome, SoundIfAccepted, called, calledOnSound};
-ghost use Rattle.delete_transfer.specs.Delete.{deleteRefusals, withoutTransfer};
+ghost use Rattle.delete_transfer.specs.Delete.{withoutTransfer};
 
 // The number of DeleteTransfer's own refusal behind 4 if it applies, or 0.
 fn delete_refusal(state: PackageState) -> u32

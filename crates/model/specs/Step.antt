@@ -8,7 +8,7 @@ use lib.ListN.{length, take, drop}
 use Rattle.base.specs.Refusals.{Refusal, refuse_when_, firstRefusal}
 use Rattle.checksum.specs.Sum.{startSums, continued, sumNumber}
 use Rattle.clusters.specs.Table.{Table, needsMet}
-use Rattle.actions.specs.Action.{remove}
+use Rattle.actions.specs.Action.{Action, remove}
 use Rattle.actions.specs.Refusals.{actionRefusals}
 use Rattle.manifest.specs.Package.{Manifest, PackageRead, illFormed, inconsistent, consistent, readPackage}
 use Rattle.manifest.specs.Refused.{packageRefusals}
@@ -45,6 +45,45 @@ manifestOf illFormed = noManifest
 manifestOf inconsistent = noManifest
 manifestOf (consistent m) = m
 
+-- the refusals of the transfer calls and of Process by the values that they look at. Where a call names an id, they are those of the
+-- package that has it, and stand behind 4
+
+-- "7. IncorrectSize: Start with 0"; "16. TransfersFull: Start with 16 packages."; "17. InsufficientMemory: Start with size above the
+-- free bytes."; "18. IdsSpent: Start after 4,294,967,295 was given."
+abbrev pub startRefusals : ℕ → ℕ → ℕ → ℕ → List Refusal
+startRefusals size count freeBytes next =
+    (refuse 7 when ltb size 1)
+    ∷ (refuse 16 when leb packagesMost count)
+    ∷ (refuse 17 when ltb freeBytes size)
+    ∷ (refuse 18 when ltb idMost next)
+    ∷ []
+
+-- "5. WrongPackageState: Data or Exit off Transferring"; "6. IncorrectBlock: the counter isn't the expected one."; "7. IncorrectSize:
+-- .. data empty, or data past the declared size."
+abbrev pub dataRefusals : Package → ℕ → ℕ → List Refusal
+dataRefusals p counter size =
+    (refuse 5 when not (isTransferring (p .state)))
+    ∷ (refuse 6 when not (eqb counter (p .blocks + 1)))
+    ∷ (refuse 7 when (ltb size 1 || ltb (p .size) (p .received + size)))
+    ∷ []
+
+-- "5. WrongPackageState: Data or Exit off Transferring"; "8. InsufficientData: Exit before all bytes came."; "9. InvalidManifest: Exit,
+-- Process or Payload"; "10. PackageInconsistent: the same calls"
+abbrev pub exitRefusals : Package → PackageRead → List Refusal
+exitRefusals p read =
+    (refuse 5 when not (isTransferring (p .state))) ∷ (refuse 8 when ltb (p .received) (p .size)) ∷ packageRefusals read
+
+-- "5. WrongPackageState: .. Delete on Processing or Processed"
+abbrev pub deleteRefusals : PackageState → List Refusal
+deleteRefusals packageState = (refuse 5 when (isBeingProcessed packageState || isProcessed packageState)) ∷ []
+
+-- "5. WrongPackageState: .. Process off Transferred"; 9 and 10 as above; then "11. ClusterTouched", "12. ClusterPresent",
+-- "13. ClusterAbsent", "14. OldVersion" and "15. TableFull", on the staged table with the listed actions
+abbrev pub processRefusals : PackageState → PackageRead → Table → List Action → List Refusal
+processRefusals packageState read table listed =
+    (refuse 5 when not (isTransferred packageState))
+    ∷ (packageRefusals read ++ actionRefusals table listed (manifestOf read .action))
+
 module _ (s : State) (store : Store) where
   -- the package with an id, and what its area reads as
   abbrev pub named : ℕ → Package
@@ -55,41 +94,18 @@ module _ (s : State) (store : Store) where
 
   -- the refusals of a call from 4 on, in the order in which they are checked
   unfoldable pub ownRefusals : Call → List Refusal
-  -- "7. IncorrectSize: Start with 0"; "16. TransfersFull: Start with 16 packages."; "17. InsufficientMemory: Start with size above
-  -- the free bytes."; "18. IdsSpent: Start after 4,294,967,295 was given."
   ownRefusals (transferStart size) =
-      (refuse 7 when ltb size 1)
-      ∷ (refuse 16 when leb packagesMost (length (s .transfers .packages)))
-      ∷ (refuse 17 when ltb (free (s .transfers .packages) store) size)
-      ∷ (refuse 18 when ltb idMost (s .transfers .next))
-      ∷ []
-  -- "4. InvalidTransferId: no package has the id"; "5. WrongPackageState: Data or Exit off Transferring"; "6. IncorrectBlock: the
-  -- counter isn't the expected one."; "7. IncorrectSize: .. data empty, or data past the declared size."
+      startRefusals size (length (s .transfers .packages)) (free (s .transfers .packages) store) (s .transfers .next)
+  -- "4. InvalidTransferId: no package has the id"; then those of its package
   ownRefusals (transferData id counter block) =
-      (refuse 4 when unknown id (s .transfers .packages))
-      ∷ (refuse 5 when not (isTransferring (named id .state)))
-      ∷ (refuse 6 when not (eqb counter (named id .blocks + 1)))
-      ∷ (refuse 7 when (ltb (length block) 1 || ltb (named id .size) (named id .received + length block)))
-      ∷ []
-  -- 4 as above; "5. WrongPackageState: Data or Exit off Transferring"; "8. InsufficientData: Exit before all bytes came.";
-  -- "9. InvalidManifest: Exit, Process or Payload"; "10. PackageInconsistent: the same calls"
+      (refuse 4 when unknown id (s .transfers .packages)) ∷ dataRefusals (named id) counter (length block)
   ownRefusals (transferExit id) =
-      (refuse 4 when unknown id (s .transfers .packages))
-      ∷ (refuse 5 when not (isTransferring (named id .state)))
-      ∷ (refuse 8 when ltb (named id .received) (named id .size))
-      ∷ packageRefusals (areaRead id)
-  -- 4 as above; "5. WrongPackageState: .. Delete on Processing or Processed"
+      (refuse 4 when unknown id (s .transfers .packages)) ∷ exitRefusals (named id) (areaRead id)
   ownRefusals (deleteTransfer id) =
-      (refuse 4 when unknown id (s .transfers .packages))
-      ∷ (refuse 5 when (isBeingProcessed (named id .state) || isProcessed (named id .state)))
-      ∷ []
-  -- 4, 9 and 10 as above; "5. WrongPackageState: .. Process off Transferred"; then "11. ClusterTouched", "12. ClusterPresent",
-  -- "13. ClusterAbsent", "14. OldVersion" and "15. TableFull"
+      (refuse 4 when unknown id (s .transfers .packages)) ∷ deleteRefusals (named id .state)
   ownRefusals (process id) =
       (refuse 4 when unknown id (s .transfers .packages))
-      ∷ (refuse 5 when not (isTransferred (named id .state)))
-      ∷ (packageRefusals (areaRead id)
-      ++ actionRefusals (staged (s .session)) (actions (s .session .listed)) (manifestOf (areaRead id) .action))
+      ∷ processRefusals (named id .state) (areaRead id) (staged (s .session)) (actions (s .session .listed))
   -- Work has none from 4 on
   ownRefusals (work n) = []
   -- "4. InvalidTransferId: .. or Cancel names another than the one processing."

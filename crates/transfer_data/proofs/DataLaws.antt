@@ -16,7 +16,7 @@ use Rattle.model.specs.Areas.{declared, overwritten, blockPut}
 use Rattle.model.specs.Areas as areas
 use Rattle.model.specs.Sound.{packagesMost}
 use Rattle.model.specs.Calls.{transferData}
-use Rattle.model.specs.Step.{ownRefusals, refusals, act}
+use Rattle.model.specs.Step.{ownRefusals, refusals, act, dataRefusals}
 use Rattle.model.proofs.soundness.Accepted.{first-passed, rest-passed, passed-over, accepted-sound}
 use Rattle.model.proofs.soundness.Packages.{found-known, found-is}
 use Rattle.model.proofs.store.AreaStart.{block-at-start}
@@ -32,7 +32,7 @@ use Rattle.areas.proofs.FoundPackage.{count-fits, FoundAt}
 use Rattle.areas.proofs.ChangedPackage.{view-changed, given-at}
 use Rattle.store.specs.Positions.{written}
 use Rattle.store.proofs.PositionLaws.{written-inside}
-use Rattle.transfer_data.specs.Data.{dataRefusals, BlockFits, blockReceivedAt, blockReceived}
+use Rattle.transfer_data.specs.Data.{BlockFits, blockReceivedAt, blockReceived}
 
 -- "data empty, or data past the declared size": by what is left of the size
 pub incorrect-size : (size received n : ℕ) (b : Bool) → received ≤ size → ltb n 1 || ltb (size - received) n ≡ b
@@ -47,7 +47,6 @@ incorrect-size size received n b within e =
 pub block-fits : (s : State) (store : Store) (id i counter size n : ℕ) → FoundAt s store id i
     → n ≡ numberOrZero (firstRefusal (dataRefusals (viewPackage (packageAt (s .transfers) i)) counter size)) → n ≡ 0
     → BlockFits (s .transfers) i (packageAt (s .transfers) i) (length store) size
-unfolding dataRefusals
 block-fits s store id i counter size n found told zero =
     let p = packageAt (s .transfers) i in
     let past = ltb (p .size) (p .received + size) in
@@ -68,7 +67,7 @@ module _ (s : State) (store : Store) (id : ℕ) (block : List ℕ) where
   -- its refusals are the model's
   pub data-own : (i counter : ℕ) → FoundAt s store id i
       → firstRefusal (ownRefusals (viewState s) store (transferData id counter block)) ≡ firstRefusal (dataRefusals (viewPackage (packageAt (s .transfers) i)) counter (length block))
-  unfolding dataRefusals ownRefusals
+  unfolding ownRefusals
   data-own i counter found =
       let ps = viewPackages (s .transfers) in
       passed-over _ _ (found-known id ps _ (found .known)) ∙ rw (found-is id ps _ (found .known))

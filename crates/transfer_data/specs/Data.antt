@@ -18,15 +18,6 @@ use Rattle.areas.specs.Inside.{AreaInside}
 use Rattle.areas.specs.Changed.{withChanged}
 use Rattle.store.specs.Positions.{written}
 
--- its own refusals behind 4 of a package that is found: "5. WrongPackageState: Data or Exit off Transferring"; "6. IncorrectBlock: the
--- counter isn't the expected one."; "7. IncorrectSize: .. data empty, or data past the declared size."
-unfoldable pub dataRefusals : Package → ℕ → ℕ → List Refusal
-dataRefusals p counter length =
-    (refuse 5 when not (isTransferring (p .state)))
-    ∷ (refuse 6 when not (eqb counter (p .blocks + 1)))
-    ∷ (refuse 7 when (ltb length 1 || ltb (p .size) (p .received + length)))
-    ∷ []
-
 -- what is known of a block of a size that none of them refuses, for the package p at i, in a store of a length
 pub record BlockFits (t : Transfers) (i : ℕ) (p : Struct) (storeLength size : ℕ) : Type 0 where
   pub inside : AreaInside t i p storeLength

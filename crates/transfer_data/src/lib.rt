@@ -28,10 +28,10 @@ ghost use lib.ListN.{length};
 ghost use Rattle.base.specs.Refusals.{firstRefusal, numberOrZero};
 ghost use Rattle.model.specs.Calls.{transferData};
 ghost use Rattle.model.specs.Sound.{soundFor};
-ghost use Rattle.model.specs.Step.{step};
+ghost use Rattle.model.specs.Step.{step, dataRefusals};
 ghost use Rattle.state.specs.View.{viewPackage, viewState};
 ghost use Rattle.state.specs.Outcome.{outcome, viewOutcome, SoundIfAccepted, called, calledOnSound};
-ghost use Rattle.transfer_data.specs.Data.{dataRefusals, BlockFits, blockReceivedAt, blockReceived};
+ghost use Rattle.transfer_data.specs.Data.{BlockFits, blockReceivedAt, blockReceived};
 
 // The number of the first of TransferData's own refusals behind 4 that applies, or 0. A sound state meets what is required.
 fn data_refusal(p: Package, counter: u32, length: usize) -> u32

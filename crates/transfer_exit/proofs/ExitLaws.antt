@@ -13,7 +13,7 @@ use Rattle.model.specs.Areas as areas
 use Rattle.model.specs.Areas.{declared}
 use Rattle.model.specs.Sound.{packagesMost}
 use Rattle.model.specs.Calls.{transferExit}
-use Rattle.model.specs.Step.{ownRefusals, refusals, act}
+use Rattle.model.specs.Step.{ownRefusals, refusals, act, exitRefusals}
 use Rattle.model.proofs.soundness.Accepted.{passed-over, accepted-sound}
 use Rattle.model.proofs.soundness.Packages.{found-known, found-is}
 use Rattle.model.proofs.store.AreaStart.{area-at-start}
@@ -26,7 +26,7 @@ use Rattle.state.proofs.Outcomes.{view-packages}
 use Rattle.areas.specs.Changed.{packageAt, withChanged}
 use Rattle.areas.proofs.FoundPackage.{count-fits, FoundAt}
 use Rattle.areas.proofs.ChangedPackage.{view-changed}
-use Rattle.transfer_exit.specs.Exit.{exitRefusals, exited}
+use Rattle.transfer_exit.specs.Exit.{exited}
 
 -- what is read from the start on that was computed, as many bytes as the size, is the area
 pub exit-read : (n start from size : ℕ) (store : Store) → n ≡ refusalNumber (readPackage (take (start + size - start) (drop start store)))
@@ -40,7 +40,7 @@ module _ (s : State) (store : Store) (id : ℕ) where
   pub exit-own : (i : ℕ) → FoundAt s store id i
       → firstRefusal (ownRefusals (viewState s) store (transferExit id))
       ≡ firstRefusal (exitRefusals (viewPackage (packageAt (s .transfers) i)) (readPackage (take (packageAt (s .transfers) i .size) (drop (declared (take i (viewPackages (s .transfers)))) store))))
-  unfolding exitRefusals ownRefusals
+  unfolding ownRefusals
   exit-own i found =
       let ps = viewPackages (s .transfers) in
       passed-over _ _ (found-known id ps _ (found .known))

@@ -15,13 +15,6 @@ use Rattle.state.specs.Exact.{inState, withTransfers}
 use Rattle.state.specs.Outcome.{Outcome, outcome, answered}
 use Rattle.areas.specs.Changed.{withChanged}
 
--- its own refusals behind 4 of a package that is found and what its area reads as: "5. WrongPackageState: Data or Exit off Transferring";
--- "8. InsufficientData: Exit before all bytes came."; "9. InvalidManifest: Exit, Process or Payload"; "10. PackageInconsistent: the same
--- calls"
-unfoldable pub exitRefusals : Package → PackageRead → List Refusal
-exitRefusals p read =
-    (refuse 5 when not (isTransferring (p .state))) ∷ (refuse 8 when ltb (p .received) (p .size)) ∷ packageRefusals read
-
 -- "TransferExit(id) checks the package: Transferred."
 abbrev pub exited : State → Store → ℕ → Outcome
 exited s store id = outcome (answered Done (withTransfers (withChanged id (inState Transferred) (s .transfers)) s)) store

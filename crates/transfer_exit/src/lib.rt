@@ -32,14 +32,14 @@ ghost use Rattle.manifest.specs.Package.{readPackage};
 ghost use Rattle.model.specs.Areas.{declared};
 ghost use Rattle.model.specs.Calls.{transferExit};
 ghost use Rattle.model.specs.Sound.{packagesMost, soundFor};
-ghost use Rattle.model.specs.Step.{step};
+ghost use Rattle.model.specs.Step.{step, exitRefusals};
 ghost use Rattle.state.specs.View.{viewPackage, viewPackages, viewState};
 ghost use Rattle.state.specs.declared.answer.Answer.the-variants.{Done};
 ghost use Rattle.state.specs.declared.package.PackageState.the-variants.{Transferred};
 ghost use Rattle.state.specs.Exact.{inState, withPackage, withTransfers};
 ghost use Rattle.state.specs.Outcome.{outcome, answered, viewOutcome, SoundIfAccepted, called, calledOnSound};
 ghost use Rattle.areas.specs.Inside.{AreaInside};
-ghost use Rattle.transfer_exit.specs.Exit.{exitRefusals, exited};
+ghost use Rattle.transfer_exit.specs.Exit.{exited};
 
 // The number of the first of TransferExit's own refusals behind 4 that applies to the package p at i, or 0. A call that found the
 // package meets what is required.

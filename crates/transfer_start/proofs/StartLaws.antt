@@ -12,7 +12,7 @@ use Rattle.model.specs.State.{Store}
 use Rattle.model.specs.Areas.{declared, free}
 use Rattle.model.specs.Sound.{packagesMost, idMost, sound}
 use Rattle.model.specs.Calls.{transferStart}
-use Rattle.model.specs.Step.{ownRefusals, refusals, act}
+use Rattle.model.specs.Step.{ownRefusals, refusals, act, startRefusals}
 use Rattle.model.proofs.soundness.Accepted.{first-passed, rest-passed, accepted-sound, accepted-own}
 use Rattle.state.specs.declared.state.State.{State}
 use Rattle.state.specs.View.{viewPackages, viewState}
@@ -21,27 +21,24 @@ use Rattle.state.proofs.Views.{view-with-new-package}
 use Rattle.state.proofs.Numbers.{zero-none}
 use Rattle.areas.proofs.Along.{packages-length}
 use Rattle.areas.proofs.FoundPackage.{count-fits}
-use Rattle.transfer_start.specs.Start.{startRefusals, started}
+use Rattle.transfer_start.specs.Start.{started}
 
 -- where none applies there is room for a package and an id
 module _ (size count free next n : ℕ) (told : n ≡ numberOrZero (firstRefusal (startRefusals size count free next))) (zero : n ≡ 0) where
   passed : firstRefusal (startRefusals size count free next) ≡ none
-  unfolding startRefusals
   passed = zero-none _ refl (sym zero ∙ told)
 
   pub start-room : count < packagesMost
-  unfolding startRefusals
   start-room = leb-false _ _ (first-passed _ _ (rest-passed _ _ passed))
 
   pub start-id : next < 4294967296
-  unfolding startRefusals
   start-id = omega (arith, ltb-false idMost next (first-passed _ _ (rest-passed _ _ (rest-passed _ _ (rest-passed _ _ passed)))))
 
 module _ (s : State) (store : Store) (size : ℕ) (long : length (s .transfers .packages) ≡ packagesMost) where
   -- its refusals are the model's
   pub start-own : (n : ℕ) → sound (viewState s) store ≡ true → n ≡ length store - declared (viewPackages (s .transfers))
       → firstRefusal (ownRefusals (viewState s) store (transferStart size)) ≡ firstRefusal (startRefusals size (s .transfers .count) n (s .transfers .next))
-  unfolding startRefusals ownRefusals free
+  unfolding ownRefusals free
   start-own n ok e = rw (e, packages-length (s .transfers) (count-fits s store ok) long)
 
   -- what is given is the model's

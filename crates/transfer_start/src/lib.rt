@@ -24,10 +24,10 @@ ghost use lib.ListN.{length};
 ghost use Rattle.base.specs.Refusals.{firstRefusal, numberOrZero};
 ghost use Rattle.model.specs.Calls.{transferStart};
 ghost use Rattle.model.specs.Sound.{soundFor};
-ghost use Rattle.model.specs.Step.{step};
+ghost use Rattle.model.specs.Step.{step, startRefusals};
 ghost use Rattle.state.specs.View.{viewState};
 ghost use Rattle.state.specs.Outcome.{outcome, viewOutcome, SoundIfAccepted, called, calledOnSound};
-ghost use Rattle.transfer_start.specs.Start.{startRefusals, started};
+ghost use Rattle.transfer_start.specs.Start.{started};
 
 // The number of the first of TransferStart's own refusals that applies, or 0.
 fn start_refusal(size: u32, count: usize, free: usize, next: u64) -> u32

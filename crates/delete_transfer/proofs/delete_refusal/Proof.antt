@@ -1,7 +1,6 @@
 -- `delete_transfer::delete_refusal` meets its contract: the same tests in the same order. Assumes nothing.
 use borrow.Author.Needs.{needs}
 use Rattle.state.proofs.Numbers.{numbers}
-use Rattle.delete_transfer.specs.Delete.{deleteRefusals}
 use Rattle.delete_transfer.proofs.delete_refusal.Statement.{statement}
 use Rattle.delete_transfer.proofs.delete_refusal.Tie as tie
 
@@ -9,18 +8,15 @@ is-being-processed-requires : tie.Need-is-being-processed-requires
 is-being-processed-requires c κs = search needs
 
 returns : tie.Need-returns
-unfolding deleteRefusals
 returns c = search numbers
 
 is-processed-requires : tie.Need-is-processed-requires
 is-processed-requires c κs = search needs
 
 returns-2 : tie.Need-returns-2
-unfolding deleteRefusals
 returns-2 c = search numbers
 
 returns-3 : tie.Need-returns-3
-unfolding deleteRefusals
 returns-3 c = search numbers
 
 pub delete-refusal-spec : {M : Type 1} → statement M

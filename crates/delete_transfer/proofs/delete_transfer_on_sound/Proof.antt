@@ -9,7 +9,6 @@ use Rattle.model.specs.Sound.{packagesMost}
 use Rattle.model.specs.Step.{ownRefusals}
 use Rattle.state.proofs.Ways.{ways}
 use Rattle.areas.proofs.FoundPackage.{count-fits, nothing-unknown, FoundAt, found-at, areas-fit}
-use Rattle.delete_transfer.specs.Delete.{deleteRefusals}
 use Rattle.delete_transfer.proofs.DeleteLaws.{delete-own}
 use Rattle.delete_transfer.proofs.delete_transfer_on_sound.Statement.{statement}
 use Rattle.delete_transfer.proofs.delete_transfer_on_sound.Tie as tie
@@ -70,7 +69,6 @@ same-length : tie.Need-same-length
 same-length c = search needs
 
 returns-4 : tie.Need-returns-4
-unfolding deleteRefusals
 returns-4 c = search (ways, delete-own, found (c .before .before .before .before .before .before .before))
 
 pub delete-transfer-on-sound-spec : {M : Type 1} → statement M

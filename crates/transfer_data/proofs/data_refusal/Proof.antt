@@ -1,7 +1,6 @@
 -- `transfer_data::data_refusal` meets its contract: the same tests in the same order. Assumes nothing.
 use borrow.Author.Needs.{needs}
 use Rattle.state.proofs.Numbers.{numbers}
-use Rattle.transfer_data.specs.Data.{dataRefusals}
 use Rattle.transfer_data.proofs.DataLaws.{incorrect-size}
 use Rattle.transfer_data.proofs.data_refusal.Statement.{statement}
 use Rattle.transfer_data.proofs.data_refusal.Tie as tie
@@ -10,7 +9,6 @@ is-transferring-requires : tie.Need-is-transferring-requires
 is-transferring-requires c κs = search needs
 
 returns : tie.Need-returns
-unfolding dataRefusals
 returns c = search numbers
 
 cast-if2 : tie.Need-cast-if2
@@ -20,7 +18,6 @@ add-if2 : tie.Need-add-if2
 add-if2 c = search needs
 
 returns-2 : tie.Need-returns-2
-unfolding dataRefusals
 returns-2 c = search numbers
 
 sub-left : tie.Need-sub-left
@@ -30,11 +27,9 @@ cast-if3 : tie.Need-cast-if3
 cast-if3 c = search needs
 
 returns-3 : tie.Need-returns-3
-unfolding dataRefusals
 returns-3 c = search (numbers, incorrect-size)
 
 returns-4 : tie.Need-returns-4
-unfolding dataRefusals
 returns-4 c = search (numbers, incorrect-size)
 
 pub data-refusal-spec : {M : Type 1} → statement M

@@ -9,7 +9,6 @@ use Rattle.model.specs.Sound.{packagesMost}
 use Rattle.model.specs.Step.{ownRefusals}
 use Rattle.state.proofs.Ways.{ways}
 use Rattle.areas.proofs.FoundPackage.{count-fits, nothing-unknown, FoundAt, found-at}
-use Rattle.transfer_data.specs.Data.{dataRefusals}
 use Rattle.transfer_data.proofs.DataLaws.{block-fits, data-own, data-given}
 use Rattle.transfer_data.proofs.transfer_data_on_sound.Statement.{statement}
 use Rattle.transfer_data.proofs.transfer_data_on_sound.Tie as tie
@@ -68,7 +67,6 @@ same-length : tie.Need-same-length
 same-length c = search needs
 
 returns-4 : tie.Need-returns-4
-unfolding dataRefusals
 returns-4 c = search (ways, data-own, block-fits, data-given, found (c .before .before .before .before .before .before .before))
 
 pub transfer-data-on-sound-spec : {M : Type 1} → statement M

@@ -1,7 +1,6 @@
 -- `transfer_exit::exit_refusal` meets its contract: the same tests in the same order, the text read last. Assumes nothing.
 use borrow.Author.Needs.{needs}
 use Rattle.state.proofs.Numbers.{numbers}
-use Rattle.transfer_exit.specs.Exit.{exitRefusals}
 use Rattle.transfer_exit.proofs.ExitLaws.{exit-read}
 use Rattle.transfer_exit.proofs.exit_refusal.Statement.{statement}
 use Rattle.transfer_exit.proofs.exit_refusal.Tie as tie
@@ -10,11 +9,9 @@ is-transferring-requires : tie.Need-is-transferring-requires
 is-transferring-requires c κs = search needs
 
 returns : tie.Need-returns
-unfolding exitRefusals
 returns c = search numbers
 
 returns-2 : tie.Need-returns-2
-unfolding exitRefusals
 returns-2 c = search numbers
 
 area-start-requires : tie.Need-area-start-requires
@@ -39,7 +36,6 @@ area-refusal-requires : tie.Need-area-refusal-requires
 area-refusal-requires c κs = search needs
 
 returns-3 : tie.Need-returns-3
-unfolding exitRefusals
 returns-3 c = search (exit-read, numbers)
 
 pub exit-refusal-spec : {M : Type 1} → statement M

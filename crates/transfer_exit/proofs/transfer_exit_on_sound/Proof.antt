@@ -10,7 +10,6 @@ use Rattle.model.specs.Step.{ownRefusals}
 use Rattle.state.proofs.Ways.{ways}
 use Rattle.areas.proofs.FoundPackage.{count-fits, nothing-unknown, FoundAt, found-at}
 use Rattle.areas.proofs.ChangedPackage.{given-at}
-use Rattle.transfer_exit.specs.Exit.{exitRefusals}
 use Rattle.transfer_exit.proofs.ExitLaws.{exit-own}
 use Rattle.transfer_exit.proofs.transfer_exit_on_sound.Statement.{statement}
 use Rattle.transfer_exit.proofs.transfer_exit_on_sound.Tie as tie
@@ -66,7 +65,6 @@ accept-package-requires : tie.Need-accept-package-requires
 accept-package-requires c κs = let h = found (c .before .before .before) in search needs
 
 returns-4 : tie.Need-returns-4
-unfolding exitRefusals
 returns-4 c = search (ways, exit-own, given-at, found (c .before .before .before .before))
 
 pub transfer-exit-on-sound-spec : {M : Type 1} → statement M

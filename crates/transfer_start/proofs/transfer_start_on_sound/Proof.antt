@@ -6,7 +6,6 @@ use Rattle.base.proofs.Counted.{unmapped}
 use Rattle.model.specs.Sound.{packagesMost}
 use Rattle.state.proofs.Ways.{ways}
 use Rattle.areas.proofs.FoundPackage.{count-fits}
-use Rattle.transfer_start.specs.Start.{startRefusals}
 use Rattle.transfer_start.proofs.StartLaws.{start-room, start-id, start-own}
 use Rattle.transfer_start.proofs.transfer_start_on_sound.Statement.{statement}
 use Rattle.transfer_start.proofs.transfer_start_on_sound.Tie as tie
@@ -48,7 +47,6 @@ answer-with-requires : tie.Need-answer-with-requires
 answer-with-requires c κs = search needs
 
 returns-3 : tie.Need-returns-3
-unfolding startRefusals
 returns-3 c = search (ways, start-own, long)
 
 pub transfer-start-on-sound-spec : {M : Type 1} → statement M

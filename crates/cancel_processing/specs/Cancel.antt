@@ -1,0 +1,17 @@
+-- Cancel on the code's structs.
+use mathlib.Core.Bool.{true}
+use Rattle.model.specs.State.{Store}
+use Rattle.state.specs.declared.work.Work.{Work}
+use Rattle.state.specs.declared.state.State.{State}
+use Rattle.state.specs.declared.answer.Answer.the-variants.{Done}
+use Rattle.state.specs.Outcome.{Outcome, outcome, answered}
+use Rattle.package_processing.specs.Processing.{withWork}
+
+-- the kept values with the cancel noted
+abbrev pub withCancelNoted : Work → Work
+withCancelNoted w =
+    record { action = w .action; start = w .start; count = w .count; sum = w .sum; «running_sums» = w .«running_sums»; done = w .done; «cancel_noted» = true }
+
+-- "Cancel(id) notes the cancel until Processing ends; again is accepted."
+abbrev pub cancelNoted : State → Store → Outcome
+cancelNoted s store = outcome (answered Done (withWork (withCancelNoted (s .work)) s)) store

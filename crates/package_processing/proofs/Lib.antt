@@ -1,0 +1,4 @@
+pub mod OnlyInProcessing
+pub mod Place
+pub mod InProcessing
+pub mod GiveWork

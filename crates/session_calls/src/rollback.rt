@@ -1,0 +1,54 @@
+// Rollback: Verifying or Activated to RollingBack, which keeps where it came from.
+use crate::moves::move_to;
+use soundness::sound::sound;
+use state::answer::Answered;
+use state::answer::refused;
+use state::permissions::ROLLBACK;
+use state::phase::Phase;
+use state::phase::RollbackOrigin;
+use state::phase::phase_number;
+use state::refusal::BAD_STATE;
+use state::state::State;
+ghost use mathlib.Core.Path.{_≡_};
+ghost use mathlib.Core.Bool.{true};
+ghost use lib.ListN.{length};
+ghost use Rattle.model.specs.Calls.{rollback};
+ghost use Rattle.model.specs.Sound.{soundFor};
+ghost use Rattle.model.specs.Step.{step};
+ghost use Rattle.state.specs.View.{viewState};
+ghost use Rattle.state.specs.Outcome.{outcome, viewOutcome, SoundIfAccepted, called, calledOnSound};
+ghost use Rattle.session_calls.specs.Moved.{rollbackOrigin, rollingBack};
+
+// Document 01's number of Verifying.
+const VERIFYING: usize = 4;
+
+// Where RollingBack comes from: of the two states that allow Rollback, Verifying or else Activated.
+fn rollback_origin(phase: Phase) -> RollbackOrigin
+    ensures { λ r. ⌜ r ≡ rollbackOrigin phase ⌝ }
+{
+    if phase_number(phase) == VERIFYING {
+        return RollbackOrigin::Verifying;
+    }
+    RollbackOrigin::Activated
+}
+
+// Rollback of a state that is known to be sound, which `rollback` checks.
+pub fn rollback_on_sound(s: State, store: &[u8]) -> Answered
+    requires { ⌜ soundFor (viewState s) (length (now store)) ≡ true ⌝ }
+    ensures { λ r. ⌜ outcome r (now (store .entry)) ≡ calledOnSound s (now (store .entry)) rollback (rollingBack s (now (store .entry))) ⌝ }
+{
+    let phase = s.phase;
+    move_to(s, ROLLBACK, Phase::RollingBack(rollback_origin(phase)))
+}
+
+// Rollback: Verifying or Activated to RollingBack, which keeps where it came from.
+pub fn rollback(s: State, store: &[u8]) -> Answered
+    ensures meaning { λ r. ⌜ viewOutcome (outcome r (now (store .entry))) ≡ step (viewState s) (now (store .entry)) rollback ⌝ }
+    ensures exact { λ r. ⌜ outcome r (now (store .entry)) ≡ called s (now (store .entry)) rollback (rollingBack s (now (store .entry))) ⌝ }
+    ensures sound { λ r. ⌜ SoundIfAccepted (outcome r (now (store .entry))) ⌝ }
+{
+    if !sound(s, store.len()) {
+        return refused(s, BAD_STATE);
+    }
+    rollback_on_sound(s, store)
+}

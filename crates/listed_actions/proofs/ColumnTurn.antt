@@ -81,7 +81,7 @@ passes-at columns t of n change c v (At i) e =
 
 -- ---- the list's columns
 
-part-of : (change : Change) (c : Cluster) → actionPart (actionOf change c) ≡ c .part
+pub part-of : (change : Change) (c : Cluster) → actionPart (actionOf change c) ≡ c .part
 part-of Install c = refl
 part-of Update c = refl
 part-of Remove c = refl
@@ -95,7 +95,7 @@ at-most-one-more (remove part) n = omega arith
 entry-part : (e : Entry) → actionPart (entryAction e) ≡ entryPart e
 entry-part e = part-of (e .action .change) (viewCluster (e .action .cluster))
 
-among-touched : (part : ℕ) (es : List Entry) → isAmong part (map entryPart es) ≡ touched part (map entryAction es)
+pub among-touched : (part : ℕ) (es : List Entry) → isAmong part (map entryPart es) ≡ touched part (map entryAction es)
 unfolding isAmong touched
 among-touched part [] = refl
 among-touched part (e ∷ es) = rw (entry-part e, among-touched part es)

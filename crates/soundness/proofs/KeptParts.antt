@@ -42,7 +42,7 @@ no-part Install c i e = rw (eqb-true (c .part) 0 e)
 no-part Update c i e = absurd (false≢true i)
 no-part Remove c i e = absurd (false≢true i)
 
-cleared-not-within : (w : Work) → isClearedWork w ≡ true → actionWithin (viewAction (w .action)) ≡ false
+pub cleared-not-within : (w : Work) → isClearedWork w ≡ true → actionWithin (viewAction (w .action)) ≡ false
 unfolding isClearedWork
 cleared-not-within w h =
     let change = isInstall (w .action .change) in
@@ -57,7 +57,7 @@ module _ (beginning : Table) (entries : List Entry) (count : ℕ) (few : count �
   abbrev session : model.Session
   session = countedSession beginning entries count
 
-  same-actions : actions (countedEntries entries count) ≡ listedActions entries count
+  pub same-actions : actions (countedEntries entries count) ≡ listedActions entries count
   same-actions =
       ap (λ (l : List Entry). actions (map viewEntry l)) (counted-few entriesMost count clearedEntry entries few)
       ∙ map-twice viewEntry (λ e. e .action) (take count entries)

@@ -3,6 +3,6 @@ mod counts;
 mod kept;
 mod listed;
 mod packages;
-mod phases;
+pub mod phases;
 mod session;
 pub mod sound;

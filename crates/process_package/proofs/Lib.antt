@@ -1,0 +1,3 @@
+pub mod StagedRefusal
+pub mod CheckLaws
+pub mod ProcessLaws

@@ -1,0 +1,73 @@
+-- Process on the code's structs.
+use Prim.Native.Nat.{ℕ}
+use mathlib.Core.Bool.{false, not}
+use mathlib.Core.List.{List, _∷_, _++_}
+use mathlib.Core.Option.{Option, none, some}
+use Rattle.base.specs.Refusals.{Refusal, refuse_when_, firstRefusal}
+use Rattle.checksum.specs.Sum.{startSums}
+use Rattle.actions.specs.Refusals.{actionRefusals}
+use Rattle.manifest.specs.declared.package.PackageRead.{PackageRead as PackageReadStruct}
+use Rattle.manifest.specs.Package.{PackageRead}
+use Rattle.manifest.specs.Refused.{packageRefusals}
+use Rattle.manifest.specs.Answer.{packageRead}
+use Rattle.model.specs.State.{PackageState, Session, Store, actions}
+use Rattle.model.specs.Areas.{isTransferred}
+use Rattle.model.specs.Tables.{staged}
+use Rattle.model.specs.Step.{manifestOf, areaRead}
+use Rattle.state.specs.declared.package.PackageState.the-variants as packageState
+use Rattle.state.specs.declared.phase.Phase.the-variants as phase
+use Rattle.state.specs.declared.work.Work.{Work}
+use Rattle.state.specs.declared.state.State.{State}
+use Rattle.state.specs.declared.answer.Answer.the-variants.{Done}
+use Rattle.state.specs.View.{viewState}
+use Rattle.state.specs.Exact.{inState, clearedWork, state}
+use Rattle.state.specs.Outcome.{Outcome, outcome, answered}
+use Rattle.areas.specs.Changed.{withChanged}
+use Rattle.process_package.specs.declared.checks.Checked.{Checked}
+
+-- its own refusals behind 4, by the state of a package that is found, what its area reads as, and the session: "5. WrongPackageState: ..
+-- Process off Transferred"; "9. InvalidManifest: Exit, Process or Payload"; "10. PackageInconsistent: the same calls"; then "11.
+-- ClusterTouched: Process; the session's list has the cluster." to "15. TableFull" of the package's action on the staged table
+unfoldable pub processRefusals : PackageState → PackageRead → Session → List Refusal
+processRefusals packageState read session =
+    (refuse 5 when not (isTransferred packageState))
+    ∷ (packageRefusals read ++ actionRefusals (staged session) (actions (session .listed)) (manifestOf read .action))
+
+-- "The state keeps the action, the payload's start within its area, count and sum, with the running sums and the bytes done at 0"
+abbrev pub workBegun : PackageReadStruct → Work
+workBegun read =
+    record {
+      action = read .action;
+      start = read .start;
+      count = read .count;
+      sum = read .sum;
+      «running_sums» = startSums;
+      done = 0;
+      «cancel_noted» = false;
+    }
+
+-- a refusal beside cleared values
+abbrev pub refusedCheck : ℕ → Checked
+refusedCheck number = record { number = number; work = clearedWork }
+
+-- what the checks give: a refusal by its number, or 0 beside the values that are kept
+abbrev pub checkedBy : PackageRead → Option ℕ → Checked
+checkedBy read (some number) = refusedCheck number
+checkedBy read none = record { number = 0; work = workBegun (packageRead read) }
+
+-- by the first of the refusals behind 4
+abbrev pub checked : PackageState → PackageRead → Session → Checked
+checked packageState read session = checkedBy read (firstRefusal (processRefusals packageState read session))
+
+-- "Process(id): Idle or Ready to Processing. From Idle a session begins.": the session and the store stay as they are, the package is
+-- Processing, and what its area reads as is kept
+abbrev pub processingBegun : State → Store → ℕ → Outcome
+processingBegun s store id =
+    outcome
+    (answered Done
+    (state
+    phase.Processing
+    (withChanged id (inState packageState.Processing) (s .transfers))
+    (s .session)
+    (workBegun (packageRead (areaRead (viewState s) store id)))))
+    store

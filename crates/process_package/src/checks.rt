@@ -1,0 +1,119 @@
+// The checks of a package that is to be processed, and the values that the state then keeps of it.
+use actions::action::Action;
+use actions::action::action_refusal;
+use areas::reading::answer_refusal;
+use areas::sizes::area_start;
+use listed_actions::columns::entry_columns;
+use listed_actions::columns::is_among;
+use manifest::package::PackageRead;
+use manifest::package::read_package;
+use staging::staged;
+use state::limits::ENTRIES_MOST;
+use state::package::Package;
+use state::package::is_transferred;
+use state::refusal::WRONG_PACKAGE_STATE;
+use state::session::Entry;
+use state::session::Session;
+use state::transfers::Transfers;
+use state::work::Work;
+use state::work::cleared_work;
+ghost use mathlib.Core.Path.{_≡_};
+ghost use mathlib.Core.Bool.{true};
+ghost use Prim.Native.Nat.{_≤_, _<_};
+ghost use lib.ListN.{length, take, drop};
+ghost use Rattle.actions.specs.Refusals.{touched, actionRefusal};
+ghost use Rattle.actions.specs.View.{viewAction};
+ghost use Rattle.manifest.specs.Package.{readPackage};
+ghost use Rattle.model.specs.State.{actions};
+ghost use Rattle.model.specs.Areas.{declared};
+ghost use Rattle.model.specs.Tables.{staged};
+ghost use Rattle.model.specs.Sound.{sessionSound};
+ghost use Rattle.state.specs.View.{viewPackageState, viewPackages, entriesMost, viewEntries, viewSession};
+ghost use Rattle.listed_actions.specs.Listed.{listedActions};
+ghost use Rattle.areas.specs.Inside.{AreaInside};
+ghost use Rattle.process_package.specs.Process.{workBegun, refusedCheck, checked};
+
+// The number of the first refusal behind 4 that applies, or 0, and the values that are kept, which are cleared when refused.
+pub struct Checked {
+    pub number: u32,
+    pub work: Work,
+}
+
+// Whether the first count of the entries have the cluster with a part number. A sound state meets what is required.
+fn is_touched(entries: [Entry; ENTRIES_MOST], count: usize, part: u32) -> bool
+    requires { ⌜ count ≤ entriesMost ⌝ }
+    ensures { λ r. ⌜ r ≡ touched part (listedActions entries count) ⌝ }
+{
+    let columns = entry_columns(entries, count);
+    is_among(&columns.parts, count, part)
+}
+
+// The number of the first of the refusals 11 to 15 of an action behind the session's list, or 0. A sound state meets what is required.
+fn staged_refusal(session: Session, action: Action) -> u32
+    requires { ⌜ (session .count ≤ entriesMost) × (sessionSound (viewSession session) ≡ true) ⌝ }
+    ensures { λ r. ⌜ r ≡ actionRefusal (staged (viewSession session)) (actions (viewEntries session)) (viewAction action) ⌝ }
+{
+    let entries = session.entries;
+    let cluster = action.cluster;
+    let in_list = is_touched(entries, session.count, cluster.part);
+    let table = staged(session);
+    action_refusal(table, in_list, action)
+}
+
+// The values that are kept of a package that was read. A store within its limit meets what is required.
+fn begun_work(read: PackageRead) -> Work
+    requires { ⌜ (read .start < 4294967296) × (read .count < 4294967296) ⌝ }
+    ensures { λ r. ⌜ r ≡ workBegun read ⌝ }
+{
+    let action = read.action;
+    let sums = checksum::start();
+    Work {
+        action: action,
+        start: read.start as u32,
+        count: read.count as u32,
+        sum: read.sum,
+        running_sums: sums,
+        done: 0,
+        cancel_noted: false,
+    }
+}
+
+// A refusal by its number.
+fn refused_check(number: u32) -> Checked
+    ensures { λ r. ⌜ r ≡ refusedCheck number ⌝ }
+{
+    let work = cleared_work();
+    Checked {
+        number: number,
+        work: work,
+    }
+}
+
+// The checks behind 4 of the package p at i. The text of its area is read once. A call that found the package in a sound state meets
+// what is required.
+pub fn check_package(t: Transfers, i: usize, p: Package, store: &[u8], session: Session) -> Checked
+    requires { ⌜ AreaInside t i p (length (now store)) × ((session .count ≤ entriesMost) × (sessionSound (viewSession session) ≡ true)) ⌝ }
+    ensures { λ r. ⌜ r ≡ checked (viewPackageState (p .state)) (readPackage (take (p .size) (drop (declared (take i (viewPackages t))) (now (store .entry))))) (viewSession session) ⌝ }
+{
+    let state = p.state;
+    if !is_transferred(state) {
+        return refused_check(WRONG_PACKAGE_STATE);
+    }
+    let start = area_start(t, i);
+    let read = read_package(&store[start..start + p.size as usize]);
+    let answer = read.answer;
+    let number = answer_refusal(answer);
+    if number != 0 {
+        return refused_check(number);
+    }
+    let action = read.action;
+    let refusal = staged_refusal(session, action);
+    if refusal != 0 {
+        return refused_check(refusal);
+    }
+    let work = begun_work(read);
+    Checked {
+        number: 0,
+        work: work,
+    }
+}

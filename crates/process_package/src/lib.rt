@@ -1,0 +1,95 @@
+// Process: a package that is Transferred is Processing, and the state keeps what its text says.
+pub mod checks;
+
+use crate::checks::check_package;
+use areas::lookup::find;
+use clusters::table::Found;
+use soundness::phases::is_processing;
+use soundness::sound::sound;
+use state::answer::Answer;
+use state::answer::Answered;
+use state::answer::answer_with;
+use state::answer::refused;
+use state::package::Package;
+use state::package::PackageState;
+use state::package::in_state;
+use state::permissions::PROCESS;
+use state::permissions::allowed;
+use state::phase::Phase;
+use state::refusal::BAD_STATE;
+use state::refusal::INVALID_TRANSFER_ID;
+use state::refusal::OPERATION_NOT_PERMITTED;
+use state::refusal::SERVICE_BUSY;
+use state::state::State;
+use state::transfers::with_package;
+use state::work::Work;
+ghost use mathlib.Core.Path.{_≡_};
+ghost use mathlib.Core.Bool.{true};
+ghost use Prim.Native.Nat.{_<_};
+ghost use lib.ListN.{length};
+ghost use Rattle.model.specs.Calls.{process};
+ghost use Rattle.model.specs.Sound.{packagesMost, soundFor};
+ghost use Rattle.model.specs.Step.{step};
+ghost use Rattle.state.specs.View.{viewState};
+ghost use Rattle.state.specs.declared.answer.Answer.the-variants.{Done};
+ghost use Rattle.state.specs.declared.package.PackageState.the-variants as packageState;
+ghost use Rattle.state.specs.declared.phase.Phase.the-variants as phase;
+ghost use Rattle.state.specs.Exact.{inState, withPackage, state};
+ghost use Rattle.state.specs.Outcome.{outcome, answered, viewOutcome, SoundIfAccepted, called, calledOnSound};
+ghost use Rattle.process_package.specs.Process.{processingBegun};
+
+// The package p at i is Processing, with the values that are kept of it. A place that was found meets what is required.
+fn begin_processing(s: State, i: usize, p: Package, work: Work) -> Answered
+    requires { ⌜ i < packagesMost ⌝ }
+    ensures { λ r. ⌜ r ≡ answered Done (state phase.Processing (withPackage i (inState packageState.Processing p) (s .transfers)) (s .session) work) ⌝ }
+{
+    let t = s.transfers;
+    let transfers = with_package(t, i, in_state(p, PackageState::Processing));
+    let session = s.session;
+    let begun = State {
+        phase: Phase::Processing,
+        transfers: transfers,
+        session: session,
+        work: work,
+    };
+    answer_with(Answer::Done, begun)
+}
+
+// Process of a state that is known to be sound, which `process` checks.
+pub fn process_on_sound(s: State, store: &[u8], id: u32) -> Answered
+    requires { ⌜ soundFor (viewState s) (length (now store)) ≡ true ⌝ }
+    ensures { λ r. ⌜ outcome r (now (store .entry)) ≡ calledOnSound s (now (store .entry)) (process id) (processingBegun s (now (store .entry)) id) ⌝ }
+{
+    let phase = s.phase;
+    if is_processing(phase) {
+        return refused(s, SERVICE_BUSY);
+    }
+    if !allowed(phase, PROCESS) {
+        return refused(s, OPERATION_NOT_PERMITTED);
+    }
+    let t = s.transfers;
+    let Found::At(i) = find(t, id) else {
+        return refused(s, INVALID_TRANSFER_ID);
+    };
+    let p = t.packages[i];
+    let session = s.session;
+    let check = check_package(t, i, p, store, session);
+    let number = check.number;
+    if number != 0 {
+        return refused(s, number);
+    }
+    let work = check.work;
+    begin_processing(s, i, p, work)
+}
+
+// Process(id): from Idle or Ready to Processing.
+pub fn process(s: State, store: &[u8], id: u32) -> Answered
+    ensures meaning { λ r. ⌜ viewOutcome (outcome r (now (store .entry))) ≡ step (viewState s) (now (store .entry)) (process id) ⌝ }
+    ensures exact { λ r. ⌜ outcome r (now (store .entry)) ≡ called s (now (store .entry)) (process id) (processingBegun s (now (store .entry)) id) ⌝ }
+    ensures sound { λ r. ⌜ SoundIfAccepted (outcome r (now (store .entry))) ⌝ }
+{
+    if !sound(s, store.len()) {
+        return refused(s, BAD_STATE);
+    }
+    process_on_sound(s, store, id)
+}

@@ -70,25 +70,32 @@ module _ (s : State) (store : Store) (call : Call) (alone : column (callNumber c
 
 -- what a call in Processing may go by, with the place i of the package that is processing
 pub record InProcessing (s : State) (store : Store) (i : ℕ) : Type 0 where
+  pub phase : isProcessing (viewPhase (s .phase)) ≡ true
   pub found : FoundAt s store (processingId (viewPackages (s .transfers))) i
   pub id : packageAt (s .transfers) i .id ≡ processingId (viewPackages (s .transfers))
   pub kept : WorkFacts (viewSession (s .session)) (viewPackages (s .transfers)) (keptWork (s .work))
   pub size : s .work .start + s .work .count ≡ packageAt (s .transfers) i .size
 
--- i is what `processing_place` gave, b what the table of permissions answers to a call that it allows in Processing alone
-pub in-processing : (s : State) (store : Store) (number i : ℕ) (b : Bool) → sound (viewState s) store ≡ true
-    → length (s .transfers .packages) ≡ packagesMost → column number ≡ processingAlone → b ≡ allowedNumber (viewPhase (s .phase)) number
-    → not b ≡ false → i ≡ processingPlace (viewPackages (s .transfers)) → InProcessing s store i
-in-processing s store number i b ok long alone told permitted e =
+-- i is what `processing_place` gave
+pub at-place : (s : State) (store : Store) (i : ℕ) → sound (viewState s) store ≡ true → length (s .transfers .packages) ≡ packagesMost
+    → isProcessing (viewPhase (s .phase)) ≡ true → i ≡ processingPlace (viewPackages (s .transfers)) → InProcessing s store i
+at-place s store i ok long in-it e =
     let ps = viewPackages (s .transfers) in
-    let in-it = sym (only-in-processing number alone (viewPhase (s .phase))) ∙ told-yes b _ told permitted in
     let facts = sound-says (viewState s) store ok in
     let there = place-found (s .transfers .next) ps (viewPackage clearedPackage) (facts .rise) (omega (arith, one-processing s store ok in-it)) in
     let found = found-at s store (processingId ps) i (placeOf (processingId ps) ps) ok long refl (there ∙ ap At (sym e)) in
     let kept = kept-facts s store ok in-it in
     record {
+      phase = in-it;
       found = found;
       id = found-id (processingId ps) ps _ (found .known);
       kept = kept;
       size = kept .size ∙ ap (λ (p : model.Package). p .size) (found-is (processingId ps) ps _ (found .known));
     }
+
+-- b is what the table of permissions answers to a call that it allows in Processing alone
+pub in-processing : (s : State) (store : Store) (number i : ℕ) (b : Bool) → sound (viewState s) store ≡ true
+    → length (s .transfers .packages) ≡ packagesMost → column number ≡ processingAlone → b ≡ allowedNumber (viewPhase (s .phase)) number
+    → not b ≡ false → i ≡ processingPlace (viewPackages (s .transfers)) → InProcessing s store i
+in-processing s store number i b ok long alone told permitted e =
+    at-place s store i ok long (sym (only-in-processing number alone (viewPhase (s .phase))) ∙ told-yes b _ told permitted) e

@@ -1,0 +1,4 @@
+pub mod PayloadLaws
+pub mod EndingLaws
+pub mod WorkLaws
+pub mod ViewWorked

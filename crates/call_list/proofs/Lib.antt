@@ -1,2 +1,5 @@
 pub mod RunLaws
 pub mod WithoutRefused
+pub mod RowCall
+pub mod ListLaws
+pub mod RunWays

@@ -7,11 +7,11 @@ use Prim.Native.Nat.{ℕ, suc, _≤_, _<_}
 use native.Mathlib.Omega.{arith}
 use lib.Dec.{leb, ltb, eqb}
 use lib.ListN.{length}
-use borrow.Author.Tests.{ltb-true, ltb-false, leb-true, leb-false, eqb-true, eqb-false, le-leb}
-use Rattle.base.proofs.Tests.{and-left, and-right, and-both, bool-cases, none-some}
+use borrow.Author.Tests.{ltb-true, ltb-false, leb-true, leb-false, eqb-true, eqb-false}
+use Rattle.base.proofs.Tests.{and-left, and-right, bool-cases, none-some}
 use Rattle.clusters.specs.Cluster.{Cluster, partWithin, clusterWithin}
 use Rattle.clusters.specs.Table.{Table, find, risingAbove, tableWithin, clustersMost}
-use Rattle.clusters.proofs.Limits.{rising-says, rising-is, few-clusters, rising-clusters}
+use Rattle.clusters.proofs.Limits.{rising-says, rising-is, few-clusters, rising-clusters, table-is-within}
 use Rattle.clusters.proofs.Finding.{absent-is}
 use Rattle.actions.specs.Action.{Action, install, update, remove, insert, replace, takeOut, apply, applyAll, actionWithin, actionsWithin}
 use Rattle.actions.specs.Refusals.{clusterPresent, tableFull, passes, passInTurn}
@@ -76,10 +76,6 @@ pub length-take-out : (part : ℕ) (t : Table) → length (takeOut part t) ≤ l
 unfolding takeOut
 length-take-out part [] = omega arith
 length-take-out part (d ∷ t) = let ih = length-take-out part t in bool-cases (eqb part (d .part)) (λ z. rw z (omega arith)) λ z. rw z (omega arith)
-
-table-is-within : (t : Table) → length t ≤ clustersMost → risingAbove 0 t ≡ true → tableWithin t ≡ true
-unfolding tableWithin
-table-is-within t few rising = and-both (leb (length t) clustersMost) _ (le-leb (length t) clustersMost few) rising
 
 -- ---- actions
 

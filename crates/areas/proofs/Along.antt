@@ -1,37 +1,17 @@
--- The packages that a loop goes along: the one at a place, those from a place on, and their declared sizes so far. Assumes nothing.
+-- The declared sizes of the packages that a loop went along so far. Assumes nothing.
 use Prim.Native.Nat.{ℕ, zero, suc, _+_, _≤_, _<_}
-use mathlib.Core.Path.{_≡_, refl, sym, ap, _∙_}
-use mathlib.Core.List.{List, [], _∷_, _++_, map}
+use mathlib.Core.Path.{_≡_, ap, _∙_}
+use mathlib.Core.List.{List, [], _∷_}
 use native.Mathlib.Numerals.{add-one}
 use native.Mathlib.Omega.{arith}
-use lib.ListN.{length, take, drop, getD, length-map, length-take, List·getD-map}
-use lib.Seq.{getD-take, take-all}
-use Rattle.base.proofs.Counted.{from-step, from-end}
+use lib.ListN.{length, take, getD}
+use lib.Seq.{take-all}
 use Rattle.model.specs.State as model
 use Rattle.model.specs.Areas.{declared}
 use Rattle.model.specs.Sound.{packagesMost}
 use Rattle.state.specs.declared.transfers.Transfers.{Transfers}
 use Rattle.state.specs.View.{viewPackage, clearedPackage, viewPackages}
-use Rattle.state.proofs.Views.{packages-few}
-
-module _ (t : Transfers) (few : t .count ≤ packagesMost) (long : length (t .packages) ≡ packagesMost) where
-  pub packages-length : length (viewPackages t) ≡ t .count
-  packages-length = rw (packages-few t few) (simp (length-map, length-take) (omega arith))
-
-  pub package-at : (i : ℕ) → i < t .count
-      → getD (viewPackages t) i (viewPackage clearedPackage) ≡ viewPackage (getD (t .packages) i clearedPackage)
-  package-at i h =
-      rw (packages-few t few)
-      (List·getD-map viewPackage (take (t .count) (t .packages)) i clearedPackage
-      ∙ ap viewPackage (getD-take (t .count) (t .packages) i clearedPackage h))
-
-  -- from i on: the package at i, then those from i + 1 on
-  pub packages-step : (i : ℕ) → i < t .count
-      → drop i (viewPackages t) ≡ viewPackage (getD (t .packages) i clearedPackage) ∷ drop (i + 1) (viewPackages t)
-  packages-step i h = rw (packages-few t few) (from-step viewPackage (t .packages) (t .count) (omega arith) i clearedPackage h)
-
-  pub packages-end : (i : ℕ) → t .count ≤ i → drop i (viewPackages t) ≡ []
-  packages-end i h = rw (packages-few t few) (from-end viewPackage (t .packages) (t .count) (omega arith) i h)
+use Rattle.state.proofs.PackagesAlong.{packages-length, package-at}
 
 -- the declared sizes of the first packages, one more and one more
 declared-next : (ps : List model.Package) (i : ℕ) (d : model.Package) → i < length ps

@@ -28,7 +28,7 @@ use Rattle.state.specs.Outcome.{outcome, answered}
 use Rattle.state.proofs.Views.{view-with-package}
 use Rattle.areas.specs.Place.{placeOf}
 use Rattle.areas.specs.Changed.{packageAt, changedAt, withChanged}
-use Rattle.areas.proofs.Along.{packages-length, package-at}
+use Rattle.state.proofs.PackagesAlong.{packages-length, package-at}
 use Rattle.areas.proofs.FoundPackage.{place-first, nothing-found, FoundAt}
 
 -- where no package has the id a change by the id changes nothing

@@ -29,7 +29,7 @@ use Rattle.state.proofs.Views.{packages-fit}
 use Rattle.areas.specs.Place.{placeFrom, placeOf}
 use Rattle.areas.specs.Inside.{AreaInside}
 use Rattle.areas.specs.Changed.{packageAt}
-use Rattle.areas.proofs.Along.{packages-length, package-at}
+use Rattle.state.proofs.PackagesAlong.{packages-length, package-at}
 
 -- of a sound state the count of the packages fits
 pub count-fits : (s : State) (store : Store) → sound (viewState s) store ≡ true → s .transfers .count ≤ packagesMost

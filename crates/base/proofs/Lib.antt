@@ -1,6 +1,7 @@
 pub mod Tests
 pub mod Ladder
 pub mod Counted
+pub mod Parts
 pub mod Refusals
 pub mod Tables
 pub mod Examples

@@ -20,7 +20,7 @@ use Rattle.rows.proofs.ThenLaws.{then-cases-line, then-cases-cluster-columns}
 use Rattle.clusters.specs.declared.cluster.Need.{Need}
 use Rattle.clusters.specs.Cluster.{Cluster, cluster, withNeed, partWithin, needWithin, needsWithin, needsMost, clusterWithin}
 use Rattle.clusters.specs.Table.{Table, risingAbove, tableWithin, clustersMost}
-use Rattle.clusters.proofs.Limits.{rising-says, rising-is, few-clusters, rising-clusters}
+use Rattle.clusters.proofs.Limits.{rising-says, rising-is, few-clusters, rising-clusters, table-is-within}
 use Rattle.clusters.specs.View.{viewTable}
 use Rattle.clusters.proofs.Structs.{view-struct}
 use Rattle.cluster_list.specs.declared.read.ListRead.{ListRead}
@@ -91,10 +91,6 @@ rising-joined last (d ∷ t) c h l m k =
 abbrev pub Within : Option Table → Type 0
 Within none = Unit {0}
 Within (some t) = tableWithin t ≡ true
-
-table-is-within : (t : Table) → length t ≤ clustersMost → risingAbove 0 t ≡ true → tableWithin t ≡ true
-unfolding tableWithin
-table-is-within t few rising = and-both (leb (length t) clustersMost) _ (le-leb (length t) clustersMost few) rising
 
 cluster-added-within : (t : Table) (c : Cluster) → tableWithin t ≡ true → clusterWithin c ≡ true → Within (clusterAdded t c)
 unfolding clusterAdded

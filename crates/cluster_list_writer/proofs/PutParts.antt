@@ -5,11 +5,8 @@ use mathlib.Core.List.{List, [], _∷_, _++_}
 use native.Mathlib.Omega.{arith}
 use lib.ListN.{length, drop, length-append, set, length-set}
 use Rattle.base.specs.Quoted.{comma, LF}
-use Rattle.text.specs.declared.version.Version.{Version}
-use Rattle.text.specs.Digits.{digits}
-use Rattle.text.specs.Version.{versionText}
 use Rattle.text.specs.Put.{Put}
-use Rattle.text.proofs.PutLaws.{put-length, put-nothing, put-then, put-cons, put-last, room-first, room-next}
+use Rattle.text.proofs.PutLaws.{put-length, put-nothing, put-then, put-cons, room-first, room-next}
 use Rattle.rows.specs.Line.{lineText}
 use Rattle.clusters.specs.declared.cluster.Need.{Need}
 use Rattle.clusters.specs.declared.cluster.Cluster.{Cluster as ClusterStruct}
@@ -17,39 +14,7 @@ use Rattle.clusters.specs.View.{viewCluster}
 use Rattle.clusters.specs.Table.{Table}
 use Rattle.cluster_list.specs.Write.{namesLine, needCells, needLineText, needLinesText, clusterLines, clustersText, writeList}
 use Rattle.cluster_list_writer.specs.Pair.{pairText}
-use Rattle.cluster_list_writer.proofs.Texts.{pair-length, need-line-parts, cluster-parts}
-
--- ---- a part number and a version
-
-module _ (l : List ℕ) (at part : ℕ) (version : Version) (b : ℕ) (o : at + length (pairText part version b) ≤ length l) where
-  pub room-part : at + length (digits part) ≤ length l
-  room-part = omega (arith, pair-length part version b)
-
-  module _ (m : List ℕ) (p : ℕ) (f : Put l at (digits part) p m) where
-    pub room-comma : p < length m
-    room-comma = omega (arith, pair-length part version b, f .behind, put-length l at (digits part) m p f)
-
-    pub room-version : p + 1 + length (versionText version) ≤ length (set m p comma)
-    room-version = simp length-set (omega (arith, pair-length part version b, f .behind, put-length l at (digits part) m p f))
-
-    module _ (k : List ℕ) (q : ℕ) (g : Put (set m p comma) (p + 1) (versionText version) q k) where
-      pub room-behind : q < length k
-      room-behind =
-          omega (
-            arith,
-            pair-length part version b,
-            f .behind,
-            put-length l at (digits part) m p f,
-            g .behind,
-            put-length (set m p comma) (p + 1) (versionText version) k q g,
-            length-set m p comma,
-          )
-
-      pub pair-put : Put l at (pairText part version b) (q + 1) (set k q b)
-      unfolding pairText
-      pair-put =
-          put-then l at (digits part) (comma ∷ (versionText version ++ (b ∷ []))) m (set k q b) p (q + 1) f
-          (put-cons m p comma (versionText version ++ (b ∷ [])) (set k q b) (q + 1) (put-last (set m p comma) (p + 1) (versionText version) k q b g))
+use Rattle.cluster_list_writer.proofs.Texts.{need-line-parts, cluster-parts}
 
 -- ---- two bytes
 

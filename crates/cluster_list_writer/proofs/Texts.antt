@@ -12,6 +12,7 @@ use Rattle.text.specs.declared.version.Version.{Version}
 use Rattle.text.specs.Digits.{digits}
 use Rattle.text.specs.Version.{versionText}
 use Rattle.text.proofs.DigitLaws.{ten-digits}
+use Rattle.text.proofs.PutPair.{Pair, pair-length}
 use Rattle.rows.specs.Line.{lineText}
 use Rattle.clusters.specs.declared.cluster.Need.{Need}
 use Rattle.clusters.specs.declared.cluster.Cluster.{Cluster as ClusterStruct}
@@ -52,13 +53,13 @@ cluster-parts c = go (c .needs) (needLinesText (drop 1 (c .needs)))
     go [] rest = two-cells-first (c .part) (c .version) [] ([] ∷ []) rest
     go (n ∷ ns) rest = two-cells-first (c .part) (c .version) (digits (n .part)) (versionText (n .least) ∷ []) rest
 
-pub pair-length : (part : ℕ) (version : Version) (b : ℕ) → length (pairText part version b) ≡ length (digits part) + length (versionText version) + 2
+pub pair-of : (part : ℕ) (version : Version) (b : ℕ) → Pair (pairText part version b) (digits part) comma (versionText version) b
 unfolding pairText
-pair-length part version b = simp length-append (omega arith)
+pair-of part version b = record { parts = refl }
 
 pub cluster-length-parts : (c : Cluster) → length (clusterLines c)
     ≡ length (digits (c .part)) + length (versionText (c .version)) + 2 + length (lineText (needCells (c .needs))) + length (needLinesText (drop 1 (c .needs)))
-cluster-length-parts c = rw (cluster-parts c) (simp length-append (omega (arith, pair-length (c .part) (c .version) comma)))
+cluster-length-parts c = rw (cluster-parts c) (simp length-append (omega (arith, pair-length (pair-of (c .part) (c .version) comma))))
 
 -- each part of a version fits a u32
 pub version-wide : (v : Version) → v .first ≤ 4294967295 → v .second ≤ 4294967295 → v .third ≤ 4294967295 → v .fourth ≤ 4294967295

@@ -6,7 +6,7 @@ use Prim.Native.Nat.{ℕ, zero, suc, _≤_, _<_}
 use native.Mathlib.Omega.{arith}
 use lib.Dec.{leb, ltb}
 use lib.ListN.{length, getD}
-use borrow.Author.Tests.{ltb-true, leb-true, lt-ltb}
+use borrow.Author.Tests.{ltb-true, leb-true, lt-ltb, le-leb}
 use Rattle.base.proofs.Tests.{and-left, and-right, and-both}
 use Rattle.text.specs.Version.{versionWithin}
 use Rattle.clusters.specs.Cluster.{Cluster, partWithin, clusterWithin, needsMost}
@@ -35,6 +35,10 @@ few-clusters t h = leb-true (length t) clustersMost (and-left _ (risingAbove 0 t
 pub rising-clusters : (t : Table) → tableWithin t ≡ true → risingAbove 0 t ≡ true
 unfolding tableWithin
 rising-clusters t h = and-right (leb (length t) clustersMost) _ h
+
+pub table-is-within : (t : Table) → length t ≤ clustersMost → risingAbove 0 t ≡ true → tableWithin t ≡ true
+unfolding tableWithin
+table-is-within t few rising = and-both (leb (length t) clustersMost) _ (le-leb (length t) clustersMost few) rising
 
 -- each cluster of a rising table is within its limits
 pub cluster-at-within : (last : ℕ) (t : Table) (i : ℕ) (d : Cluster) → risingAbove last t ≡ true → i < length t → clusterWithin (getD t i d) ≡ true

@@ -1,10 +1,7 @@
 -- The answer of the reader in the code.
 use Prim.Native.Nat.{ℕ}
 use Rattle.base.specs.Refusals.{firstRefusal, numberOrZero}
-use Rattle.actions.specs.declared.action.Action.{Action as ActionStruct}
-use Rattle.actions.specs.declared.action.Change.the-variants.{Install}
-use Rattle.clusters.specs.Struct.{clearedCluster}
-use Rattle.actions.specs.Struct.{structAction}
+use Rattle.actions.specs.Struct.{clearedAction, structAction}
 use Rattle.manifest.specs.declared.package.PackageAnswer.{PackageAnswer}
 use Rattle.manifest.specs.declared.package.PackageAnswer.the-variants.{Consistent, IllFormed, Inconsistent}
 use Rattle.manifest.specs.declared.package.PackageRead.{PackageRead as PackageReadStruct}
@@ -20,10 +17,6 @@ abbrev pub answerNumber : PackageAnswer → ℕ
 answerNumber Consistent = 0
 answerNumber IllFormed = 9
 answerNumber Inconsistent = 10
-
--- an action with every number 0 and no needs
-abbrev pub clearedAction : ActionStruct
-clearedAction = record { change = Install; cluster = clearedCluster }
 
 abbrev pub cleared : PackageAnswer → PackageReadStruct
 cleared answer = record { answer = answer; action = clearedAction; start = 0; count = 0; sum = 0 }

@@ -8,11 +8,11 @@ use lib.ListN.{length, take, drop}
 use Rattle.base.specs.Refusals.{Refusal, refuse_when_, firstRefusal}
 use Rattle.checksum.specs.Sum.{startSums, continued, sumNumber}
 use Rattle.clusters.specs.Table.{Table, needsMet}
-use Rattle.actions.specs.Action.{Action, remove}
+use Rattle.actions.specs.Action.{remove}
 use Rattle.actions.specs.Refusals.{actionRefusals}
 use Rattle.manifest.specs.Package.{Manifest, PackageRead, illFormed, inconsistent, consistent, readPackage}
 use Rattle.manifest.specs.Refused.{packageRefusals}
-use Rattle.model.specs.State.{PackageState, transferred, beingProcessed, Package, RollbackOrigin, verifyingRollsBack, activatedRollsBack, readyCleansUp, activatedCleansUp, rolledBackCleansUp, Phase, idle, ready, processing, activating, verifying, activated, rollingBack, rolledBack, cleaningUp, phaseNumber, isProcessing, Transfers, Entry, Work, State, state, Store, actions}
+use Rattle.model.specs.State.{PackageState, transferred, beingProcessed, Package, RollbackOrigin, verifyingRollsBack, activatedRollsBack, readyCleansUp, activatedCleansUp, rolledBackCleansUp, Phase, idle, ready, processing, activating, verifying, activated, rollingBack, rolledBack, cleaningUp, phaseNumber, isProcessing, Transfers, Entry, Session, Work, State, state, Store, actions}
 use Rattle.model.specs.State as states
 use Rattle.model.specs.Calls.{Call, callNumber, transferStart, transferData, transferExit, deleteTransfer, process, work, cancel, revert, activate, rollback, finish, report, Answer, givenId, done, working, processed, cancelled, preActivationFailed, missingDependencies, verificationFailed, notAbleToRollback, notAbleToRevert, cleaningFailed, Reply, refused, accepted}
 use Rattle.model.specs.Calls as calls
@@ -77,12 +77,12 @@ exitRefusals p read =
 abbrev pub deleteRefusals : PackageState → List Refusal
 deleteRefusals packageState = (refuse 5 when (isBeingProcessed packageState || isProcessed packageState)) ∷ []
 
--- "5. WrongPackageState: .. Process off Transferred"; 9 and 10 as above; then "11. ClusterTouched", "12. ClusterPresent",
--- "13. ClusterAbsent", "14. OldVersion" and "15. TableFull", on the staged table with the listed actions
-abbrev pub processRefusals : PackageState → PackageRead → Table → List Action → List Refusal
-processRefusals packageState read table listed =
+-- "5. WrongPackageState: .. Process off Transferred"; 9 and 10 as above; then "11. ClusterTouched: Process; the session's list has the
+-- cluster." to "15. TableFull" of the package's action on the staged table
+abbrev pub processRefusals : PackageState → PackageRead → Session → List Refusal
+processRefusals packageState read session =
     (refuse 5 when not (isTransferred packageState))
-    ∷ (packageRefusals read ++ actionRefusals table listed (manifestOf read .action))
+    ∷ (packageRefusals read ++ actionRefusals (staged session) (actions (session .listed)) (manifestOf read .action))
 
 module _ (s : State) (store : Store) where
   -- the package with an id, and what its area reads as
@@ -105,7 +105,7 @@ module _ (s : State) (store : Store) where
       (refuse 4 when unknown id (s .transfers .packages)) ∷ deleteRefusals (named id .state)
   ownRefusals (process id) =
       (refuse 4 when unknown id (s .transfers .packages))
-      ∷ processRefusals (named id .state) (areaRead id) (staged (s .session)) (actions (s .session .listed))
+      ∷ processRefusals (named id .state) (areaRead id) (s .session)
   -- Work has none from 4 on
   ownRefusals (work n) = []
   -- "4. InvalidTransferId: .. or Cancel names another than the one processing."

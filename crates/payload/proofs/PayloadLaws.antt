@@ -8,9 +8,10 @@ use mathlib.Core.Option.{Option, none, some}
 use native.Mathlib.Omega.{arith}
 use lib.ListN.{length, take, drop, length-drop}
 use borrow.Author.Tests.{not-false}
-use lib.Seq.{length-take-le, take-add, drop-at, drop-drop}
+use lib.Seq.{drop-drop}
 use denote.Ref.{RefT, now}
 use Rattle.base.specs.Refusals.{firstRefusal, numberOrZero}
+use Rattle.base.proofs.Parts.{drop-take}
 use Rattle.model.specs.State.{Package, State, Store}
 use Rattle.model.specs.Areas.{areaStart, areaOf}
 use Rattle.model.specs.Sound.{sound, badState}
@@ -23,9 +24,6 @@ use Rattle.model.proofs.reading.Payload.{PayloadFacts, check-number, zero-check
 use Rattle.payload.specs.declared.place.PayloadPlace.{PayloadPlace}
 use Rattle.payload.specs.Part.{PartAt}
 use Rattle.payload.specs.Place.{noPlace, placeUnless, place, placeOnSound}
-
-part-of-front : (n more : ℕ) (l : List ℕ) → n ≤ length l → drop n (take (n + more) l) ≡ take more (drop n l)
-part-of-front n more l h = rw (take-add n more l) (drop-at (take n l) (take more (drop n l)) n (length-take-le n l h))
 
 module _ (s : State) (store : Store) (id : ℕ) where
   abbrev packages : List Package
@@ -74,7 +72,7 @@ module _ (s : State) (store : Store) (id : ℕ) where
         sym
         (facts .behind
         ∙ ap (drop (m .start)) area
-        ∙ part-of-front (m .start) (m .count) from room
+        ∙ drop-take (m .start) (m .count) from room
         ∙ ap (take (m .count)) (drop-drop (m .start) (areaStart id packages) store))
 
   -- where the payload's part lies

@@ -17,11 +17,11 @@ use Rattle.model.specs.State.{PackageState, Session, Store, actions}
 use Rattle.model.specs.Areas.{isTransferred}
 use Rattle.model.specs.Tables.{staged}
 use Rattle.model.specs.Sound.{storeMost}
-use Rattle.model.specs.Step.{manifestOf}
+use Rattle.model.specs.Step.{manifestOf, processRefusals}
 use Rattle.state.specs.declared.work.Work.{Work}
 use Rattle.state.proofs.Numbers.{zero-none}
 use Rattle.process_package.specs.declared.checks.Checked.{Checked}
-use Rattle.process_package.specs.Process.{processRefusals, workBegun, refusedCheck, checkedBy, checked}
+use Rattle.process_package.specs.Process.{workBegun, refusedCheck, checkedBy, checked}
 
 -- ---- what was read
 
@@ -59,13 +59,13 @@ numbers-fit o size bytes e h =
 module _ (packageState : PackageState) (session : Session) where
   off-number : (read : PackageRead) → not (isTransferred packageState) ≡ true
       → 5 ≡ numberOrZero (firstRefusal (processRefusals packageState read session))
-  unfolding processRefusals firstRefusal
+  unfolding firstRefusal
   off-number read off = rw off
 
   -- past 5, by 9 or 10
   text-number : (read : PackageRead) (n : ℕ) → not (isTransferred packageState) ≡ false → n ≡ refusalNumber read → (n ≡ 0 → ⊥)
       → n ≡ numberOrZero (firstRefusal (processRefusals packageState read session))
-  unfolding processRefusals firstRefusal
+  unfolding firstRefusal
   text-number illFormed n on e applies = rw on e
   text-number inconsistent n on e applies = rw on e
   text-number (consistent m) n on e applies = absurd (applies e)
@@ -74,7 +74,7 @@ module _ (packageState : PackageState) (session : Session) where
   action-number : (read : PackageRead) (n : ℕ) → not (isTransferred packageState) ≡ false → refusalNumber read ≡ 0
       → n ≡ actionRefusal (staged session) (actions (session .listed)) (manifestOf read .action)
       → n ≡ numberOrZero (firstRefusal (processRefusals packageState read session))
-  unfolding processRefusals firstRefusal actionRefusal
+  unfolding firstRefusal actionRefusal
   action-number illFormed n on z e = absurd (omega arith)
   action-number inconsistent n on z e = absurd (omega arith)
   action-number (consistent m) n on z e = rw on e
@@ -117,7 +117,7 @@ module _ (packageState : PackageState) (session : Session) (bytes : List ℕ) (r
 
       pub passed : (work : Work) → k ≡ 0 → work ≡ workBegun o → r ≡ record { number = 0; work = work }
           → r ≡ checked packageState (readPackage bytes) session
-      unfolding processRefusals actionRefusals
+      unfolding actionRefusals
       passed work none-applies f g =
           let first : firstRefusal (processRefusals packageState (readPackage bytes) session) ≡ none =
           zero-none (processRefusals packageState (readPackage bytes) session) refl (sym none-applies ∙ number) in

@@ -1,17 +1,12 @@
 -- Process on the structs and in the model: what soundness says of the session, its refusals are the model's, and what an accepted call
 -- gives is seen as the model's. Assumes nothing.
-use Prim.Native.Nat.{ℕ, _≤_}
+use Prim.Native.Nat.{ℕ}
 use mathlib.Core.Path.{_≡_, refl, sym, ap, ap₂, _∙_}
-use mathlib.Core.Bool.{true}
 use mathlib.Core.List.{List}
 use mathlib.Core.Option.{Option, none, some}
-use native.Mathlib.Omega.{arith}
-use lib.ListN.{length, take, drop, length-map}
-use borrow.Author.Tests.{le-leb, leb-true}
+use lib.ListN.{length, take, drop}
 use Rattle.base.specs.Refusals.{Refusal, firstRefusal, numberOrZero}
-use Rattle.base.specs.Counted.{counted}
-use Rattle.base.proofs.Counted.{counted-fits}
-use Rattle.base.proofs.Tests.{and-both, bool-cases, clash}
+use Rattle.base.proofs.Tests.{bool-cases, clash}
 use Rattle.actions.specs.Refusals.{actionRefusals}
 use Rattle.actions.specs.Action.{Action}
 use Rattle.manifest.specs.Package.{Manifest, PackageRead, consistent, readPackage}
@@ -21,13 +16,12 @@ use Rattle.model.specs.State as model
 use Rattle.model.specs.State.{Store}
 use Rattle.model.specs.Areas as areas
 use Rattle.model.specs.Areas.{declared, areaOf}
-use Rattle.model.specs.Sound.{packagesMost, sessionSound, sound}
+use Rattle.model.specs.Sound.{packagesMost}
 use Rattle.model.specs.Calls.{done, process}
 use Rattle.model.specs.Step as step
-use Rattle.model.specs.Step.{manifestOf, areaRead, ownRefusals, refusals, act}
+use Rattle.model.specs.Step.{manifestOf, areaRead, ownRefusals, refusals, act, processRefusals}
 use Rattle.model.proofs.soundness.Accepted.{first-passed, rest-passed, passed-over, accepted-sound, accepted-own, read-is}
 use Rattle.model.proofs.soundness.Packages.{found-known, found-is}
-use Rattle.model.proofs.soundness.SoundFacts.{sound-says}
 use Rattle.model.proofs.store.AreaStart.{area-at-start}
 use Rattle.state.specs.declared.package.PackageState.the-variants as packageState
 use Rattle.state.specs.declared.phase.Phase.the-variants as phase
@@ -38,31 +32,16 @@ use Rattle.state.specs.declared.work.Work.{Work}
 use Rattle.state.specs.declared.state.State.{State}
 use Rattle.state.specs.declared.answer.Answer.the-variants.{Done}
 use Rattle.state.specs.declared.answer.Answered.{Answered}
-use Rattle.state.specs.View.{viewPackageState, viewPackages, entriesMost, viewEntry, clearedEntry, viewSession, isClearedWork, viewWork, viewState}
+use Rattle.state.specs.View.{viewPackageState, viewPackages, viewSession, isClearedWork, viewWork, viewState}
 use Rattle.state.specs.Exact.{inState, withPackage, state}
 use Rattle.state.specs.Outcome.{outcome, answered, viewOutcome}
 use Rattle.state.proofs.Numbers.{zero-none}
-use Rattle.soundness.proofs.ListParts.{room-for-all}
 use Rattle.soundness.proofs.KeptParts.{cleared-not-within}
 use Rattle.areas.specs.Changed.{packageAt, withChanged}
 use Rattle.areas.proofs.FoundPackage.{count-fits, FoundAt}
 use Rattle.areas.proofs.ChangedPackage.{view-changed}
 use Rattle.process_package.specs.declared.checks.Checked.{Checked}
-use Rattle.process_package.specs.Process.{processRefusals, workBegun, checkedBy, checked, processingBegun}
-
--- ---- the session of a sound state
-
-pub session-fits : (s : State) (store : Store) → sound (viewState s) store ≡ true
-    → (s .session .count ≤ entriesMost) × (sessionSound (viewSession (s .session)) ≡ true)
-unfolding sessionSound
-session-fits s store ok =
-    let facts = sound-says (viewState s) store ok in
-    let room = room-for-all (s .transfers) (count-fits s store ok) in
-    let session = s .session in
-    let counting = counted entriesMost clearedEntry (session .count) (session .entries) in
-    let short : length counting ≤ entriesMost = omega (arith, length-map counting viewEntry, facts .entries) in
-    let few = leb-true (session .count) entriesMost (sym (counted-fits entriesMost (session .count) clearedEntry (session .entries)) ∙ le-leb _ _ short) in
-    (few, and-both _ _ (facts .beginning) (and-both _ _ (facts .within) (facts .turn)))
+use Rattle.process_package.specs.Process.{workBegun, checkedBy, checked, processingBegun}
 
 -- ---- what is kept
 
@@ -95,7 +74,7 @@ module _ (s : State) (store : Store) (id : ℕ) where
 
     -- its refusals are the model's
     process-own : firstRefusal (ownRefusals (viewState s) store (process id)) ≡ firstRefusal own
-    unfolding processRefusals ownRefusals
+    unfolding ownRefusals
     process-own =
         let ps = viewPackages (s .transfers) in
         passed-over _ _ (found-known id ps _ (found .known))
@@ -109,7 +88,7 @@ module _ (s : State) (store : Store) (id : ℕ) where
 
     module _ (zero : c .number ≡ 0) where
       none-applies : firstRefusal own ≡ none
-      unfolding processRefusals actionRefusals
+      unfolding actionRefusals
       none-applies = zero-none own refl (sym zero ∙ number)
 
       pub checks-pass : firstRefusal (ownRefusals (viewState s) store (process id)) ≡ none

@@ -1,19 +1,14 @@
 -- Process on the code's structs.
 use Prim.Native.Nat.{ℕ}
-use mathlib.Core.Bool.{false, not}
-use mathlib.Core.List.{List, _∷_, _++_}
+use mathlib.Core.Bool.{false}
 use mathlib.Core.Option.{Option, none, some}
-use Rattle.base.specs.Refusals.{Refusal, refuse_when_, firstRefusal}
+use Rattle.base.specs.Refusals.{firstRefusal}
 use Rattle.checksum.specs.Sum.{startSums}
-use Rattle.actions.specs.Refusals.{actionRefusals}
 use Rattle.manifest.specs.declared.package.PackageRead.{PackageRead as PackageReadStruct}
 use Rattle.manifest.specs.Package.{PackageRead}
-use Rattle.manifest.specs.Refused.{packageRefusals}
 use Rattle.manifest.specs.Answer.{packageRead}
-use Rattle.model.specs.State.{PackageState, Session, Store, actions}
-use Rattle.model.specs.Areas.{isTransferred}
-use Rattle.model.specs.Tables.{staged}
-use Rattle.model.specs.Step.{manifestOf, areaRead}
+use Rattle.model.specs.State.{PackageState, Session, Store}
+use Rattle.model.specs.Step.{areaRead, processRefusals}
 use Rattle.state.specs.declared.package.PackageState.the-variants as packageState
 use Rattle.state.specs.declared.phase.Phase.the-variants as phase
 use Rattle.state.specs.declared.work.Work.{Work}
@@ -24,14 +19,6 @@ use Rattle.state.specs.Exact.{inState, clearedWork, state}
 use Rattle.state.specs.Outcome.{Outcome, outcome, answered}
 use Rattle.areas.specs.Changed.{withChanged}
 use Rattle.process_package.specs.declared.checks.Checked.{Checked}
-
--- its own refusals behind 4, by the state of a package that is found, what its area reads as, and the session: "5. WrongPackageState: ..
--- Process off Transferred"; "9. InvalidManifest: Exit, Process or Payload"; "10. PackageInconsistent: the same calls"; then "11.
--- ClusterTouched: Process; the session's list has the cluster." to "15. TableFull" of the package's action on the staged table
-unfoldable pub processRefusals : PackageState → PackageRead → Session → List Refusal
-processRefusals packageState read session =
-    (refuse 5 when not (isTransferred packageState))
-    ∷ (packageRefusals read ++ actionRefusals (staged session) (actions (session .listed)) (manifestOf read .action))
 
 -- "The state keeps the action, the payload's start within its area, count and sum, with the running sums and the bytes done at 0"
 abbrev pub workBegun : PackageReadStruct → Work

@@ -1,10 +1,11 @@
--- Progress of a sound state by its phase: 0 outside Processing, and in it by the kept values, which are not cleared there. Assumes nothing.
+-- Progress of a sound state by the manager's state: 0 outside Processing, and in it by the kept values, which are not cleared there.
+-- Assumes nothing.
 use Prim.Native.Nat.{ℕ}
 use mathlib.Core.Path.{_≡_, refl, sym, ap, _∙_}
 use mathlib.Core.Bool.{Bool, true, false, not, cond, true≢false}
 use mathlib.Core.List.{List}
 use mathlib.Core.Option.{none, some}
-use borrow.Author.Tests.{not-true}
+use borrow.Author.Tests.{not-true, eq-eqb, ne-eqb}
 use Rattle.base.proofs.Ladder.{told-no, told-yes}
 use Rattle.model.specs.State as model
 use Rattle.model.specs.State.{Store, phaseNumber, isProcessing}
@@ -16,7 +17,6 @@ use Rattle.model.proofs.reading.Replies.{progress-decided, progress-unsound}
 use Rattle.state.specs.declared.work.Work.{Work}
 use Rattle.state.specs.declared.state.State.{State}
 use Rattle.state.specs.View.{isClearedWork, keptWork, viewWork, viewState}
-use borrow.Author.Tests.{eq-eqb, ne-eqb}
 
 -- in Processing soundness refuses cleared values
 kept-there : (phase : model.Phase) (session : model.Session) (ps : List model.Package) (w : Work) → keptSound phase session ps (viewWork w) ≡ true
@@ -29,7 +29,7 @@ kept-there phase session ps w = go (isClearedWork w)
     go true h inside = absurd (true≢false (sym inside ∙ not-true _ h))
     go false h inside = refl
 
--- number is what the state's number was computed as
+-- number is what the code has as the number of the manager's state
 module _ (s : State) (store : Store) (ok : sound (viewState s) store ≡ true) (number : ℕ) (e : number ≡ phaseNumber (viewState s .phase)) where
   pub outside : (number ≡ 2 → ⊥) → given 0 ≡ given (progressOf (viewState s .work))
   outside h = ap given (sym (progress-outside (viewState s) store ok (ne-eqb _ 2 (rw e at h))))

@@ -1,17 +1,13 @@
 -- Report on the structs and in the model: what a sound state meets, what is given by its parts, and that it is seen as the model's.
 -- Assumes nothing.
 use Prim.Native.Nat.{_≤_}
-use mathlib.Core.Path.{_≡_, refl, sym, ap, _∙_}
+use mathlib.Core.Path.{_≡_, refl, ap, _∙_}
 use mathlib.Core.Bool.{Bool, true, false, false≢true}
 use mathlib.Core.List.{[]}
 use mathlib.Core.Option.{none}
-use native.Mathlib.Omega.{arith}
-use lib.Dec.{leb}
-use lib.ListN.{length, length-map}
-use borrow.Author.Tests.{le-leb, leb-true}
+use lib.ListN.{length}
 use Rattle.base.specs.Refusals.{firstRefusal}
-use Rattle.base.proofs.Tests.{and-left, and-right, and-both}
-use Rattle.base.proofs.Counted.{counted-fits}
+use Rattle.base.proofs.Tests.{and-left, and-right}
 use Rattle.clusters.specs.declared.table.Table.{Table}
 use Rattle.clusters.specs.Table as plain
 use Rattle.clusters.specs.Table.{needsMet, tableWithin, clustersMost}
@@ -27,7 +23,6 @@ use Rattle.model.specs.Sound.{sessionSound, sound}
 use Rattle.model.specs.Step as step
 use Rattle.model.specs.Step.{activatingPhase, activatingAnswer, movesTo, refusals, act}
 use Rattle.model.proofs.soundness.Accepted.{accepted-sound, accepted-allowed}
-use Rattle.model.proofs.soundness.SoundFacts.{sound-says}
 use Rattle.state.specs.declared.transfers.Transfers.{Transfers}
 use Rattle.state.specs.declared.phase.CleanUpOrigin.{CleanUpOrigin}
 use Rattle.state.specs.declared.phase.CleanUpOrigin.the-variants as cleanUp
@@ -39,36 +34,23 @@ use Rattle.state.specs.declared.state.State.{State}
 use Rattle.state.specs.declared.answer.Answer.{Answer}
 use Rattle.state.specs.declared.answer.Answer.the-variants.{Done}
 use Rattle.state.specs.declared.answer.Answered.{Answered}
-use Rattle.state.specs.View.{viewPackages, viewPhase, entriesMost, clearedEntry, viewEntries, viewSession, viewState}
+use Rattle.state.specs.View.{viewPackages, viewPhase, entriesMost, viewSession, viewState}
 use Rattle.state.specs.Exact.{newSession, state, inPhase}
 use Rattle.state.specs.Outcome.{Outcome, outcome, answered, viewOutcome}
-use Rattle.soundness.proofs.ListParts.{room-for-all}
 use Rattle.areas.specs.declared.deletion.Deletion.the-variants.{AllProcessed}
 use Rattle.areas.specs.Deletion.{keeps, remainingTransfers}
 use Rattle.areas.proofs.FoundPackage.{count-fits, areas-fit}
 use Rattle.areas.proofs.Kept.{view-remaining}
+use Rattle.soundness.proofs.SoundSession.{session-fits, session-sound}
 use Rattle.staging.specs.Staged.{stagedTable, runningTable}
 use Rattle.staging.proofs.StagedViews.{view-staged, view-running}
 use Rattle.report.specs.Reported.{CleanUpFits, activatingReported, cleanedUp, failedPhase, reported}
 
 -- ---- what a sound state meets
 
--- a count above the room makes more entries than there may be, and only that does
-entries-fit : (session : Session) → leb (length (viewEntries session)) entriesMost ≡ leb (session .count) entriesMost
-entries-fit session = rw length-map (counted-fits entriesMost (session .count) clearedEntry (session .entries))
-
 module _ (s : State) (store : Store) (ok : sound (viewState s) store ≡ true) where
-  pub session-fits : (s .session .count ≤ entriesMost) × (sessionSound (viewSession (s .session)) ≡ true)
-  unfolding sessionSound
-  session-fits =
-      let facts = sound-says (viewState s) store ok in
-      let few : length (viewEntries (s .session)) ≤ entriesMost = omega (arith, facts .entries, room-for-all (s .transfers) (count-fits s store ok)) in (
-        leb-true _ _ (sym (entries-fit (s .session)) ∙ le-leb _ _ few),
-        and-both _ _ (facts .beginning) (and-both _ _ (facts .within) (facts .turn)),
-      )
-
   pub clean-up-fits : CleanUpFits s (length store)
-  clean-up-fits = let fit = areas-fit s store ok in record { packages = fit .0; areas = fit .1; entries = session-fits .0 }
+  clean-up-fits = let fit = areas-fit s store ok in record { packages = fit .0; areas = fit .1; entries = session-fits s store ok }
 
 -- the staged table is within the limits
 pub staged-within : (session : Session) → session .count ≤ entriesMost → length (session .beginning .clusters) ≡ clustersMost
@@ -124,8 +106,9 @@ module _ (s : State) (store : Store) where
       ≡ step.cleanedUp (viewState s) store (tables.runningIn (viewPhase (CleaningUp origin)) (viewSession (s .session)))
   unfolding step.cleanedUp
   view-cleaned ok long origin =
-      let fits = session-fits s store ok in
-      rw (view-remaining AllProcessed (s .transfers) (count-fits s store ok), view-running (s .session) (fits .0) long (fits .1) (CleaningUp origin))
+      let few = session-fits s store ok in
+      let fine = session-sound s store ok in
+      rw (view-remaining AllProcessed (s .transfers) (count-fits s store ok), view-running (s .session) few long fine (CleaningUp origin))
 
   -- a case for each row
   view-row : sound (viewState s) store ≡ true → length (s .session .beginning .clusters) ≡ clustersMost
@@ -133,9 +116,10 @@ module _ (s : State) (store : Store) where
       → viewOutcome (reported s store phase good) ≡ step.reported (viewState s) store (viewPhase phase) good
   unfolding reported step.reported allowed tables.runningIn
   view-row ok long Activating good h =
-      let fits = session-fits s store ok in
+      let few = session-fits s store ok in
+      let fine = session-sound s store ok in
       view-activating good _
-      ∙ ap (λ (t : plain.Table). movesTo (viewState s) store (activatingPhase good (needsMet t)) (activatingAnswer good (needsMet t))) (view-staged (s .session) (fits .0) long (fits .1))
+      ∙ ap (λ (t : plain.Table). movesTo (viewState s) store (activatingPhase good (needsMet t)) (activatingAnswer good (needsMet t))) (view-staged (s .session) few long fine)
   view-row ok long Verifying true h = refl
   view-row ok long Verifying false h = refl
   view-row ok long (RollingBack origin) true h = refl

@@ -1,4 +1,3 @@
-pub mod Along
 pub mod Order
 pub mod OnePackage
 pub mod TransferLimits
@@ -8,3 +7,4 @@ pub mod Listing
 pub mod ListParts
 pub mod KeptParts
 pub mod Whole
+pub mod SoundSession

@@ -1,6 +1,7 @@
 pub mod Permitted
 pub mod CountedArrays
 pub mod Views
+pub mod PackagesAlong
 pub mod Outcomes
 pub mod Numbers
 pub mod Ways

@@ -1,7 +1,6 @@
 -- The structs that the functions give, unused places included. proofs/Views.antt has what they stand for.
 use Prim.Native.Nat.{ℕ, _+_}
 use mathlib.Core.Bool.{false}
-use mathlib.Core.List.{List}
 use lib.ListN.{replicate}
 use Rattle.checksum.specs.Sum.{startSums}
 use Rattle.clusters.specs.declared.table.Table.{Table}
@@ -17,7 +16,8 @@ use Rattle.state.specs.declared.session.Entry.{Entry}
 use Rattle.state.specs.declared.session.Session.{Session}
 use Rattle.state.specs.declared.work.Work.{Work}
 use Rattle.state.specs.declared.state.State.{State}
-use Rattle.state.specs.View.{clearedPackage, entriesMost, clearedAction, clearedEntry}
+use Rattle.actions.specs.Struct.{clearedAction}
+use Rattle.state.specs.View.{clearedPackage, entriesMost, clearedEntry}
 
 -- ---- packages
 

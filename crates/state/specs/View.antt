@@ -5,13 +5,11 @@ use mathlib.Core.List.{List, map}
 use mathlib.Core.Option.{Option, none, some}
 use lib.Dec.{eqb}
 use Rattle.base.specs.Counted.{counted}
-use Rattle.checksum.specs.Sum.{startSums}
 use Rattle.text.specs.declared.version.Version.{Version}
 use Rattle.actions.specs.declared.action.Change.{Change}
 use Rattle.actions.specs.declared.action.Change.the-variants.{Install, Update, Remove}
-use Rattle.actions.specs.declared.action.Action.{Action as ActionStruct}
-use Rattle.clusters.specs.Struct.{clearedCluster}
 use Rattle.clusters.specs.View.{viewTable}
+use Rattle.actions.specs.Struct.{clearedAction}
 use Rattle.actions.specs.View.{viewAction}
 use Rattle.model.specs.State as model
 use Rattle.model.specs.Sound.{packagesMost}
@@ -88,10 +86,6 @@ entriesMost = 16
 
 abbrev pub viewEntry : Entry → model.Entry
 viewEntry e = record { id = e .id; action = viewAction (e .action) }
-
--- an action with every number 0 and no needs
-abbrev pub clearedAction : ActionStruct
-clearedAction = record { change = Install; cluster = clearedCluster }
 
 abbrev pub clearedEntry : Entry
 clearedEntry = record { id = 0; action = clearedAction }

@@ -5,7 +5,8 @@ use checksum::Sums;
 use clusters::cluster::new_cluster;
 use text::version::Version;
 ghost use mathlib.Core.Path.{_≡_};
-ghost use Rattle.state.specs.View.{isInstall, isNoVersion, isClearedWork, clearedAction};
+ghost use Rattle.actions.specs.Struct.{clearedAction};
+ghost use Rattle.state.specs.View.{isInstall, isNoVersion, isClearedWork};
 ghost use Rattle.state.specs.Exact.{clearedWork};
 
 pub struct Work {

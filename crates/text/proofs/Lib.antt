@@ -3,6 +3,7 @@ pub mod ThenLaws
 pub mod VersionLaws
 pub mod DigitLaws
 pub mod PutLaws
+pub mod PutPair
 pub mod Putting
 pub mod Bounds
 pub mod WordLaws

@@ -19,7 +19,7 @@ use Rattle.state.specs.View.{viewPackages, viewState}
 use Rattle.state.specs.Outcome.{viewOutcome}
 use Rattle.state.proofs.Views.{view-with-new-package}
 use Rattle.state.proofs.Numbers.{zero-none}
-use Rattle.areas.proofs.Along.{packages-length}
+use Rattle.state.proofs.PackagesAlong.{packages-length}
 use Rattle.areas.proofs.FoundPackage.{count-fits}
 use Rattle.transfer_start.specs.Start.{started}
 

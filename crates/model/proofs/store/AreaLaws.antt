@@ -9,8 +9,9 @@ use Prim.Native.Nat.{ℕ, _+_, _-_, _≤_}
 use native.Mathlib.Omega.{arith}
 use lib.Dec.{eqb}
 use lib.ListN.{length, take, drop, replicate, length-append, length-take}
-use lib.Seq.{length-take-le, take-at, drop-at, take-take, take-add, drop-drop, take-append-add, drop-append-add}
+use lib.Seq.{length-take-le, take-at, drop-at, take-take, drop-drop, take-append-add, drop-append-add}
 use borrow.Author.Tests.{eqb-true, eq-eqb}
+use Rattle.base.proofs.Parts.{drop-take}
 use Rattle.base.proofs.Tests.{bool-cases, none-some}
 use Rattle.model.specs.State.{Package, State, Store}
 use Rattle.model.specs.Areas.{declared, free, find, areaOf, overwritten, blockPut, remaining, remainingAreas, deleted, newPackage, changed}
@@ -31,9 +32,6 @@ take-front size store rest h = take-at (take size store) rest size (length-take-
 
 pub drop-front : (size : ℕ) (store rest : List ℕ) → size ≤ length store → drop size (take size store ++ rest) ≡ rest
 drop-front size store rest h = drop-at (take size store) rest size (length-take-le size store h)
-
-drop-take : (n more : ℕ) (l : List ℕ) → n ≤ length l → drop n (take (n + more) l) ≡ take more (drop n l)
-drop-take n more l h = rw (take-add n more l) (drop-at (take n l) (take more (drop n l)) n (length-take-le n l h))
 
 -- ---- bytes overwritten within the first `size`
 

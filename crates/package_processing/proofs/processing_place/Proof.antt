@@ -11,7 +11,7 @@ use Rattle.base.proofs.Ladder.{told}
 use Rattle.model.specs.State.{Package}
 use Rattle.model.specs.Sound.{packagesMost}
 use Rattle.state.specs.View.{viewPackage, clearedPackage, viewPackages}
-use Rattle.areas.proofs.Along.{packages-step, packages-end}
+use Rattle.state.proofs.PackagesAlong.{packages-step, packages-end}
 use Rattle.package_processing.specs.Processing.{processingPlace}
 use Rattle.package_processing.proofs.processing_place.Statement.{statement}
 use Rattle.package_processing.proofs.processing_place.Tie as tie

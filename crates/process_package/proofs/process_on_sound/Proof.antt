@@ -12,8 +12,9 @@ use Rattle.model.specs.Sound.{packagesMost}
 use Rattle.model.specs.Step.{ownRefusals}
 use Rattle.state.specs.View.{viewPhase}
 use Rattle.state.proofs.Ways.{ways}
+use Rattle.soundness.proofs.SoundSession.{session-fits, session-sound}
 use Rattle.areas.proofs.FoundPackage.{count-fits, nothing-unknown, FoundAt, found-at}
-use Rattle.process_package.proofs.ProcessLaws.{session-fits, checks-number, checks-pass, begun-at}
+use Rattle.process_package.proofs.ProcessLaws.{checks-number, checks-pass, begun-at}
 use Rattle.process_package.proofs.process_on_sound.Statement.{statement}
 use Rattle.process_package.proofs.process_on_sound.Tie as tie
 
@@ -72,7 +73,7 @@ check-package-requires : tie.Need-check-package-requires
 check-package-requires c κs =
     let k = c .before .before in
     let s = k .before .before .before .before .before .before .before .before .before .before in
-    (found k .inside, session-fits (s .args .s) (s .args .store .now) (s .pre))
+    (found k .inside, (session-fits (s .args .s) (s .args .store .now) (s .pre), session-sound (s .args .s) (s .args .store .now) (s .pre)))
 
 refused-requires-4 : tie.Need-refused-requires-4
 refused-requires-4 c κs = search needs

@@ -1,7 +1,8 @@
 -- `report::report_in` meets its contract: a case for each manager's state. Assumes nothing.
 use borrow.Author.Needs.{needs}
+use Rattle.soundness.proofs.SoundSession.{session-fits, session-sound}
 use Rattle.report.specs.Reported.{reported}
-use Rattle.report.proofs.ReportLaws.{session-fits, clean-up-fits, give-in, give-answered}
+use Rattle.report.proofs.ReportLaws.{clean-up-fits, give-in, give-answered}
 use Rattle.report.proofs.report_in.Statement.{statement}
 use Rattle.report.proofs.report_in.Tie as tie
 
@@ -9,7 +10,7 @@ enum-told : tie.Need-enum-told
 enum-told c = search needs
 
 report-activating-requires : tie.Need-report-activating-requires
-report-activating-requires c κs = search session-fits
+report-activating-requires c κs = search (session-fits, session-sound)
 
 enum-told-2 : tie.Need-enum-told-2
 enum-told-2 c = search needs

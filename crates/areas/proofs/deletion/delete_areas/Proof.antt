@@ -13,7 +13,7 @@ use Rattle.model.specs.Sound.{packagesMost}
 use Rattle.state.specs.View.{viewPackage, clearedPackage, viewPackages}
 use Rattle.store.proofs.Compaction.{Compaction, compaction-begins, compaction-fits, compaction-moves, compaction-passes, compaction-ends}
 use Rattle.areas.specs.Deletion.{keeps}
-use Rattle.areas.proofs.Along.{packages-step, packages-end}
+use Rattle.state.proofs.PackagesAlong.{packages-step, packages-end}
 use Rattle.areas.proofs.deletion.delete_areas.Statement.{statement}
 use Rattle.areas.proofs.deletion.delete_areas.Tie as tie
 

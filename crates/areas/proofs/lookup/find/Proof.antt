@@ -12,7 +12,7 @@ use Rattle.model.specs.State.{Package}
 use Rattle.model.specs.Sound.{packagesMost}
 use Rattle.state.specs.View.{viewPackage, clearedPackage, viewPackages}
 use Rattle.areas.specs.Place.{placeFrom, placeOf}
-use Rattle.areas.proofs.Along.{packages-step, packages-end}
+use Rattle.state.proofs.PackagesAlong.{packages-step, packages-end}
 use Rattle.areas.proofs.lookup.find.Statement.{statement}
 use Rattle.areas.proofs.lookup.find.Tie as tie
 

@@ -1,27 +1,35 @@
 -- `cluster_list_writer::put::put_pair` meets its contract: each part put behind the one before, with its room. Assumes nothing.
 use native.Mathlib.Omega.{arith}
 use Rattle.text.proofs.PutLaws.{put-length}
-use Rattle.cluster_list_writer.proofs.PutParts.{room-part, room-comma, room-version, room-behind, pair-put}
+use Rattle.base.specs.Quoted.{comma}
+use Rattle.text.specs.Digits.{digits}
+use Rattle.text.specs.Version.{versionText}
+use Rattle.text.proofs.PutPair.{Pair, room-first-part, room-between, room-second-part, room-behind, pair-put}
+use Rattle.cluster_list_writer.specs.Pair.{pairText}
+use Rattle.cluster_list_writer.proofs.Texts.{pair-of}
 use Rattle.cluster_list_writer.proofs.put.put_pair.Statement.{statement}
 use Rattle.cluster_list_writer.proofs.put.put_pair.Tie as tie
 
+pair : (c : tie.Start) → (let a = c .args in Pair (pairText (a .part) (a .version) (a .behind)) (digits (a .part)) comma (versionText (a .version)) (a .behind))
+pair c = let a = c .args in pair-of (a .part) (a .version) (a .behind)
+
 put-number-requires : tie.Need-put-number-requires
-put-number-requires c κs = search room-part
+put-number-requires c κs = search (room-first-part (pair (c .before .before)))
 
 slice-write-buf : tie.Need-slice-write-buf
-slice-write-buf c = search room-comma
+slice-write-buf c = search (room-between (pair (c .before .before .before .before .before)))
 
 add-put-version : tie.Need-add-put-version
 add-put-version c = omega (arith, slice-write-buf (c .before))
 
 put-version-requires : tie.Need-put-version-requires
-put-version-requires c κs = search room-version
+put-version-requires c κs = search (room-second-part (pair (c .before .before .before .before .before .before)))
 
 slice-write-buf-2 : tie.Need-slice-write-buf-2
-slice-write-buf-2 c = search room-behind
+slice-write-buf-2 c = search (room-behind (pair (c .before .before .before .before .before .before .before .before .before)))
 
 returns : tie.Need-returns
-returns c = search pair-put
+returns c = search (pair-put (pair (c .before .before .before .before .before .before .before .before .before)))
 
 add-result : tie.Need-add-result
 add-result c = omega (arith, returns c .behind)

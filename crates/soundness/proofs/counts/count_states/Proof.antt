@@ -13,7 +13,7 @@ use Rattle.model.specs.Areas.{isProcessed, isBeingProcessed, countIn}
 use Rattle.model.specs.Sound.{packagesMost}
 use Rattle.state.specs.View.{clearedPackage, viewPackage, viewPackages}
 use Rattle.soundness.specs.declared.counts.Counts.{Counts}
-use Rattle.soundness.proofs.Along.{packages-step, packages-end}
+use Rattle.state.proofs.PackagesAlong.{packages-step, packages-end}
 use Rattle.soundness.proofs.Counting.{CountedTo, none-counted, one-counted, all-counted}
 use Rattle.soundness.proofs.counts.count_states.Statement.{statement}
 use Rattle.soundness.proofs.counts.count_states.Tie as tie

@@ -12,7 +12,7 @@ use Rattle.model.proofs.soundness.OfProcessing.{ofProcessing}
 use Rattle.model.proofs.soundness.ProcessingPackage.{processingSize, processing-size}
 use Rattle.model.specs.Sound.{packagesMost}
 use Rattle.state.specs.View.{clearedPackage, viewPackage, viewPackages}
-use Rattle.soundness.proofs.Along.{packages-step, packages-end}
+use Rattle.state.proofs.PackagesAlong.{packages-step, packages-end}
 use Rattle.soundness.proofs.kept.processing_size.Statement.{statement}
 use Rattle.soundness.proofs.kept.processing_size.Tie as tie
 

@@ -11,7 +11,7 @@ use Rattle.model.specs.State.{Entry}
 use Rattle.model.specs.Sound.{packagesMost, processedAsListed}
 use Rattle.state.specs.View.{clearedPackage, viewPackage, viewPackages}
 use Rattle.soundness.specs.Parts.{plainId}
-use Rattle.soundness.proofs.Along.{packages-step, packages-end}
+use Rattle.state.proofs.PackagesAlong.{packages-step, packages-end}
 use Rattle.soundness.proofs.Listing.{stops, goes-on}
 use Rattle.soundness.proofs.listed.processed_as_listed.Statement.{statement}
 use Rattle.soundness.proofs.listed.processed_as_listed.Tie as tie

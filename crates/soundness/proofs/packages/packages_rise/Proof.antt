@@ -13,7 +13,7 @@ use Rattle.base.proofs.Counted.{unmapped}
 use Rattle.model.specs.Areas.{declared}
 use Rattle.model.specs.Sound.{packagesMost, packagesRise}
 use Rattle.state.specs.View.{clearedPackage, viewPackage, viewPackages}
-use Rattle.soundness.proofs.Along.{packages-step, packages-end}
+use Rattle.state.proofs.PackagesAlong.{packages-step, packages-end}
 use Rattle.soundness.proofs.OnePackage.{riseAndFit, all-packages, no-package, stops, goes-on, ends-within}
 use Rattle.soundness.proofs.packages.packages_rise.Statement.{statement}
 use Rattle.soundness.proofs.packages.packages_rise.Tie as tie

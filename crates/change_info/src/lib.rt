@@ -1,0 +1,51 @@
+// ChangeInfo: "ChangeInfo the session's list in order as names `cluster`, `change` with Added, Updated or Removed".
+mod length;
+mod write;
+
+use crate::length::changes_length;
+use crate::write::write_changes;
+use reading_reply::ReadingReply;
+use soundness::sound::sound;
+use state::refusal::BAD_STATE;
+use state::session::Session;
+use state::state::State;
+ghost use mathlib.Core.Path.{_≡_};
+ghost use mathlib.Core.Bool.{true};
+ghost use Prim.Native.Nat.{_≤_};
+ghost use lib.ListN.{length};
+ghost use Rattle.model.specs.Sound.{soundFor};
+ghost use Rattle.model.specs.Reading.{changeInfo, changeInfoMost, changeInfoReport};
+ghost use Rattle.state.specs.View.{entriesMost, viewState};
+ghost use Rattle.reading_reply.specs.Reply.{reported, reportOnSound};
+ghost use Rattle.change_info.specs.Changes.{changesText};
+
+// The changes in the lent buffer, if it has the room. A sound state meets what is required.
+fn report_changes(session: Session, buffer: &mut [u8]) -> ReadingReply
+    requires { ⌜ (session .count ≤ entriesMost) × (length (changesText session) ≤ changeInfoMost) ⌝ }
+    ensures { λ r. ⌜ reported r (now (buffer .exit)) ≡ reportOnSound (changesText session) (now (buffer .entry)) ⌝ }
+{
+    let needed = changes_length(session);
+    if buffer.len() < needed {
+        return ReadingReply::ShortBuffer(needed);
+    }
+    let written = write_changes(buffer, session);
+    ReadingReply::Given(written)
+}
+
+// ChangeInfo of a state that is known to be sound, which `change_info` checks.
+pub fn change_info_on_sound(s: State, store: &[u8], buffer: &mut [u8]) -> ReadingReply
+    requires { ⌜ soundFor (viewState s) (length (now store)) ≡ true ⌝ }
+    ensures { λ r. ⌜ reported r (now (buffer .exit)) ≡ reportOnSound (changeInfo (viewState s)) (now (buffer .entry)) ⌝ }
+{
+    let session = s.session;
+    report_changes(session, buffer)
+}
+
+pub fn change_info(s: State, store: &[u8], buffer: &mut [u8]) -> ReadingReply
+    ensures { λ r. ⌜ reported r (now (buffer .exit)) ≡ changeInfoReport (viewState s) (now (store .entry)) (now (buffer .entry)) ⌝ }
+{
+    if !sound(s, store.len()) {
+        return ReadingReply::Refused(BAD_STATE);
+    }
+    change_info_on_sound(s, store, buffer)
+}

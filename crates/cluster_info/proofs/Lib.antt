@@ -1,0 +1,2 @@
+pub mod RunningText
+pub mod WrittenLoadsBack

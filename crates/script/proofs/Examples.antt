@@ -1,0 +1,101 @@
+-- Lines and their words at their boundaries, computed: what is accepted, and what is `unknown` beside it. Assumes nothing.
+use Prim.Native.Nat.{ℕ}
+use Prim.Native.String.{String}
+use mathlib.Core.Path.{refl}
+use mathlib.Core.Bool.{true, false}
+use mathlib.Core.List.{[], _∷_}
+use Rattle.base.specs.Quoted.{bytes}
+use Rattle.base.proofs.Tables.{_gives_, AllHold}
+use Rattle.script.specs.declared.line.Line.{Line}
+use Rattle.script.specs.declared.line.Line.the-variants as line
+use Rattle.script.specs.Place.{place}
+use Rattle.script.specs.Line.{lineAt}
+use Rattle.script.specs.Open.{computing}
+
+abbrev lineOf : String → Line
+lineOf s = lineAt (bytes s) 0
+
+-- each line of the table
+lines-computed : AllHold lineOf
+    ("load 1 4096 =a" gives line.Load 1 4096 (place 12 14)
+    ∷ "start 91" gives line.Start 91
+    ∷ "data 1 2 0aff" gives line.Data 1 2 (place 9 13)
+    ∷ "exit 3" gives line.Exit 3
+    ∷ "delete 4" gives line.Delete 4
+    ∷ "process 5" gives line.Process 5
+    ∷ "work 6" gives line.Work 6
+    ∷ "cancel 7" gives line.Cancel 7
+    ∷ "revert" gives line.Revert
+    ∷ "activate" gives line.Activate
+    ∷ "rollback" gives line.Rollback
+    ∷ "finish" gives line.Finish
+    ∷ "report good" gives line.Report true
+    ∷ "report bad" gives line.Report false
+    ∷ "packages 8" gives line.Packages 8
+    ∷ "clusters 9" gives line.Clusters 9
+    ∷ "changes 10" gives line.Changes 10
+    ∷ "payload 11" gives line.Payload 11
+    ∷ "check 12" gives line.Check 12
+    ∷ "progress" gives line.Progress
+    ∷ "store" gives line.Store
+    ∷ "poke 13 -" gives line.Poke 13 (place 8 9)
+    ∷ "# load" gives line.Remark
+    ∷ "#" gives line.Remark
+    ∷ [])
+unfolding computing
+lines-computed = refl
+
+-- "`SIZE`, `ID`, `COUNTER`, `N`, `AT` and `FIRST` are 0 to 4,294,967,295. `STORE` is at most 1,048,576 ..; `ROOM` at most 64 records or 65,536 bytes"
+rooms-computed : AllHold lineOf
+    ("load 4294967295 1048576 =" gives line.Load 4294967295 1048576 (place 24 25)
+    ∷ "load 4294967296 1 =" gives line.Unknown
+    ∷ "load 1 1048577 =" gives line.Unknown
+    ∷ "start 4294967295" gives line.Start 4294967295
+    ∷ "start 4294967296" gives line.Unknown
+    ∷ "data 0 4294967296 -" gives line.Unknown
+    ∷ "poke 4294967296 -" gives line.Unknown
+    ∷ "packages 64" gives line.Packages 64
+    ∷ "packages 65" gives line.Unknown
+    ∷ "clusters 65536" gives line.Clusters 65536
+    ∷ "clusters 65537" gives line.Unknown
+    ∷ "changes 65536" gives line.Changes 65536
+    ∷ "changes 65537" gives line.Unknown
+    ∷ [])
+unfolding computing
+rooms-computed = refl
+
+-- "a line that is none of the above": words too many, too few or of no bytes, numbers with leading zeros, other words
+unknown-computed : AllHold lineOf
+    ("" gives line.Unknown
+    ∷ " start 1" gives line.Unknown
+    ∷ "start" gives line.Unknown
+    ∷ "start " gives line.Unknown
+    ∷ "start  1" gives line.Unknown
+    ∷ "start 1 " gives line.Unknown
+    ∷ "start 1 2" gives line.Unknown
+    ∷ "start 01" gives line.Unknown
+    ∷ "start +1" gives line.Unknown
+    ∷ "Start 1" gives line.Unknown
+    ∷ "starts 1" gives line.Unknown
+    ∷ "revert " gives line.Unknown
+    ∷ "revert 1" gives line.Unknown
+    ∷ "report" gives line.Unknown
+    ∷ "report  good" gives line.Unknown
+    ∷ "report 1" gives line.Unknown
+    ∷ "data 1 1" gives line.Unknown
+    ∷ "data 1 1 " gives line.Unknown
+    ∷ "data 1 1 0A" gives line.Unknown
+    ∷ "data 1 1 =a b" gives line.Unknown
+    ∷ "data 1 -" gives line.Unknown
+    ∷ "load 1 1" gives line.Unknown
+    ∷ "poke 1" gives line.Unknown
+    ∷ " # load" gives line.Unknown
+    ∷ [])
+unfolding computing
+unknown-computed = refl
+
+-- a line behind other text
+prefix-computed : AllHold (λ (at : ℕ). lineAt (bytes "7 data 1 2 =a") at)
+    (2 gives line.Data 1 2 (place 11 13) ∷ 0 gives line.Unknown ∷ 13 gives line.Unknown ∷ 14 gives line.Unknown ∷ [])
+unfolding computing
+prefix-computed = refl

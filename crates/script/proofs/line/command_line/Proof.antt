@@ -1,0 +1,71 @@
+-- `script::line::command_line` meets its contract: one word after the other. Assumes nothing.
+use borrow.Author.Needs.{needs}
+use Rattle.base.proofs.Ladder.{told-ladder}
+use Rattle.script.specs.Line.{commandLine}
+use Rattle.script.proofs.line.command_line.Statement.{statement}
+use Rattle.script.proofs.line.command_line.Tie as tie
+
+slice-aggregate-is-word : tie.Need-slice-aggregate-is-word
+slice-aggregate-is-word c = search needs
+
+is-word-requires : tie.Need-is-word-requires
+is-word-requires c κs = search needs
+
+load-line-requires : tie.Need-load-line-requires
+load-line-requires c κs = search needs
+
+returns : tie.Need-returns
+unfolding commandLine
+returns c = search told-ladder depth 9
+
+slice-aggregate-is-word-2 : tie.Need-slice-aggregate-is-word-2
+slice-aggregate-is-word-2 c = search needs
+
+is-word-requires-2 : tie.Need-is-word-requires-2
+is-word-requires-2 c κs = search needs
+
+data-line-requires : tie.Need-data-line-requires
+data-line-requires c κs = search needs
+
+returns-2 : tie.Need-returns-2
+unfolding commandLine
+returns-2 c = search told-ladder depth 9
+
+slice-aggregate-is-word-3 : tie.Need-slice-aggregate-is-word-3
+slice-aggregate-is-word-3 c = search needs
+
+is-word-requires-3 : tie.Need-is-word-requires-3
+is-word-requires-3 c κs = search needs
+
+poke-line-requires : tie.Need-poke-line-requires
+poke-line-requires c κs = search needs
+
+returns-3 : tie.Need-returns-3
+unfolding commandLine
+returns-3 c = search told-ladder depth 9
+
+short-line-requires : tie.Need-short-line-requires
+short-line-requires c κs = search needs
+
+returns-4 : tie.Need-returns-4
+unfolding commandLine
+returns-4 c = search told-ladder depth 9
+
+pub command-line-spec : {M : Type 1} → statement M
+command-line-spec =
+    tie.close
+    (tie.spec
+    slice-aggregate-is-word
+    is-word-requires
+    load-line-requires
+    returns
+    slice-aggregate-is-word-2
+    is-word-requires-2
+    data-line-requires
+    returns-2
+    slice-aggregate-is-word-3
+    is-word-requires-3
+    poke-line-requires
+    returns-3
+    short-line-requires
+    returns-4)

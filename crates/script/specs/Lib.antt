@@ -1,0 +1,4 @@
+pub mod Words
+pub mod Place
+pub mod Line
+pub mod Open

@@ -1,0 +1,134 @@
+-- The lines of the script, one definition for the lines of the table that have the same words behind the first.
+use Prim.Native.Nat.{ℕ}
+use mathlib.Core.Bool.{true, false, cond}
+use mathlib.Core.List.{List}
+use lib.ListN.{getD, drop}
+use lib.Dec.{eqb, ltb}
+use Rattle.base.specs.Quoted.{bytes}
+use Rattle.text.specs.Word.{sameBytes}
+use Rattle.text.specs.Then.{andThen}
+use Rattle.script.specs.declared.line.Line.{Line}
+use Rattle.script.specs.declared.line.Line.the-variants as line
+use Rattle.script.specs.Words.{wordAt, behindWord, numberWord, lastNumber}
+use Rattle.script.specs.Place.{lastBlock, andThenBlock}
+
+-- "`SIZE`, `ID`, `COUNTER`, `N`, `AT` and `FIRST` are 0 to 4,294,967,295."
+abbrev pub numberMost : ℕ
+numberMost = 4294967295
+
+-- "`STORE` is at most 1,048,576, the room of the program"
+abbrev pub storeMost : ℕ
+storeMost = 1048576
+
+-- "`ROOM` at most 64 records"
+abbrev pub recordsMost : ℕ
+recordsMost = 64
+
+-- "or 65,536 bytes"
+abbrev pub reportMost : ℕ
+reportMost = 65536
+
+-- "a line that begins with `#`"
+abbrev pub hash : ℕ
+hash = 35
+
+-- ---- lines with bytes: the words from a position on, behind the first word
+
+-- "`load FIRST STORE BYTES`"
+unfoldable pub loadLine : List ℕ → ℕ → Line
+loadLine s at =
+    andThen line.Unknown (numberWord s at numberMost) λ first behind-first.
+    andThen line.Unknown (numberWord s (behind-first .at) storeMost) λ store behind-store.
+    andThenBlock line.Unknown (lastBlock s (behind-store .at)) λ list.
+    line.Load first store list
+
+-- "`data ID COUNTER BYTES`"
+unfoldable pub dataLine : List ℕ → ℕ → Line
+dataLine s at =
+    andThen line.Unknown (numberWord s at numberMost) λ id behind-id.
+    andThen line.Unknown (numberWord s (behind-id .at) numberMost) λ counter behind-counter.
+    andThenBlock line.Unknown (lastBlock s (behind-counter .at)) λ b.
+    line.Data id counter b
+
+-- "`poke AT BYTES`"
+unfoldable pub pokeLine : List ℕ → ℕ → Line
+pokeLine s at =
+    andThen line.Unknown (numberWord s at numberMost) λ n behind-n.
+    andThenBlock line.Unknown (lastBlock s (behind-n .at)) λ b.
+    line.Poke n b
+
+-- ---- lines of a word and one number
+
+-- "past one of these rooms: `unknown`"
+unfoldable pub within : ℕ → ℕ → Line → Line
+within n most l = cond (ltb most n) line.Unknown l
+
+-- "`packages ROOM`", "`clusters ROOM`, `changes ROOM`"
+unfoldable pub roomLine : List ℕ → ℕ → Line
+roomLine w n =
+    cond (sameBytes w (bytes "packages")) (within n recordsMost (line.Packages n))
+    (cond (sameBytes w (bytes "clusters")) (within n reportMost (line.Clusters n))
+    (cond (sameBytes w (bytes "changes")) (within n reportMost (line.Changes n))
+    line.Unknown))
+
+-- "`process ID`, `work N`, `cancel ID`"
+unfoldable pub processingLine : List ℕ → ℕ → Line
+processingLine w n =
+    cond (sameBytes w (bytes "process")) (line.Process n)
+    (cond (sameBytes w (bytes "work")) (line.Work n)
+    (cond (sameBytes w (bytes "cancel")) (line.Cancel n)
+    (roomLine w n)))
+
+-- "`payload ID`", "`check ID`"
+unfoldable pub payloadLine : List ℕ → ℕ → Line
+payloadLine w n =
+    cond (sameBytes w (bytes "payload")) (line.Payload n)
+    (cond (sameBytes w (bytes "check")) (line.Check n)
+    (processingLine w n))
+
+-- "`start SIZE`", "`exit ID`, `delete ID`"
+unfoldable pub transferLine : List ℕ → ℕ → Line
+transferLine w n =
+    cond (sameBytes w (bytes "start")) (line.Start n)
+    (cond (sameBytes w (bytes "exit")) (line.Exit n)
+    (cond (sameBytes w (bytes "delete")) (line.Delete n)
+    (payloadLine w n)))
+
+-- ---- lines of fixed words
+
+-- "`report good`, `report bad`", "`progress`", "`store`"
+unfoldable pub showLine : List ℕ → Line
+showLine s =
+    cond (sameBytes s (bytes "report good")) (line.Report true)
+    (cond (sameBytes s (bytes "report bad")) (line.Report false)
+    (cond (sameBytes s (bytes "progress")) line.Progress
+    (cond (sameBytes s (bytes "store")) line.Store
+    line.Unknown)))
+
+-- "`revert`, `activate`, `rollback`, `finish`"
+unfoldable pub sessionLine : List ℕ → Line
+sessionLine s =
+    cond (sameBytes s (bytes "revert")) line.Revert
+    (cond (sameBytes s (bytes "activate")) line.Activate
+    (cond (sameBytes s (bytes "rollback")) line.Rollback
+    (cond (sameBytes s (bytes "finish")) line.Finish
+    (showLine s))))
+
+-- ---- a line
+
+-- a line of one number, or of fixed words, whose first word ends at a position
+unfoldable pub shortLine : List ℕ → ℕ → List ℕ → ℕ → Line
+shortLine s at w next = andThen (sessionLine (drop at s)) (lastNumber s next numberMost) λ n end. transferLine w n
+
+-- a line by its first word, with the position behind that
+unfoldable pub commandLine : List ℕ → ℕ → List ℕ → ℕ → Line
+commandLine s at w next =
+    cond (sameBytes w (bytes "load")) (loadLine s next)
+    (cond (sameBytes w (bytes "data")) (dataLine s next)
+    (cond (sameBytes w (bytes "poke")) (pokeLine s next)
+    (shortLine s at w next)))
+
+-- the line at a position of a text, up to its end: "a line that is none of the above .. `unknown`"
+unfoldable pub lineAt : List ℕ → ℕ → Line
+lineAt s at =
+    cond (eqb (getD s at 0) hash) line.Remark (commandLine s at (wordAt s at) (behindWord s at))

@@ -1,0 +1,4 @@
+pub mod HexLaws
+pub mod BlockLaws
+pub mod RoundTrip
+pub mod Examples

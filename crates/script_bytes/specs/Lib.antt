@@ -1,0 +1,3 @@
+pub mod Hex
+pub mod Block
+pub mod Open

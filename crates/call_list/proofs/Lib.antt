@@ -3,3 +3,4 @@ pub mod WithoutRefused
 pub mod RowCall
 pub mod ListLaws
 pub mod RunWays
+pub mod LoadedWays

@@ -51,7 +51,7 @@ module _ (s : State) (store : Store) (answers : List ℕ) where
 -- ---- what `run` learns on its way
 
 -- the calls of a list that is given
-given-cases : (P : Option (List Call) → Type 0) (o : Option (List Call)) → isGiven o ≡ true → ((calls : List Call) → o ≡ some calls → P (some calls)) → P o
+pub given-cases : (P : Option (List Call) → Type 0) (o : Option (List Call)) → isGiven o ≡ true → ((calls : List Call) → o ≡ some calls → P (some calls)) → P o
 given-cases P none g f = clash g refl
 given-cases P (some calls) g f = f calls refl
 

@@ -1,4 +1,6 @@
 // Lists of calls, each handed the state and store that the one before left.
+pub mod loaded;
+
 use call_rows::answer_words::answer_words;
 use call_rows::row::Row;
 use call_rows::row::RowRequest;

@@ -1,2 +1,6 @@
 pub mod RunLaws
 pub mod WithoutRefused
+pub mod RowCall
+pub mod ListLaws
+pub mod RunWays
+pub mod LoadedWays

@@ -11,6 +11,8 @@ use Rattle.model.specs.Step.{refusals}
 use Rattle.state.specs.declared.state.State.{State}
 use Rattle.state.specs.View.{viewState}
 use Rattle.state.specs.Outcome.{Outcome, replyOf, settled, called}
+use Rattle.manager.specs.Accepts.{accepts, exactStep}
+use Rattle.manager.proofs.GivesBack.{accepts-back}
 use Rattle.call_list.specs.Run.{Step, Made, Run, made, ran, runBy, acceptedOnly, callsOf, RefusedGivesBack, SameWithoutRefused}
 
 -- ---- one call that is refused or accepted
@@ -63,16 +65,17 @@ without-refused step back s store (call ∷ calls) =
 
 -- ---- calls whose refusals are the model's
 
--- they give back what they were handed, where what is given without a refusal is no refusal
-pub called-gives-back : (accepts : Step)
-    → ((s : State) (store : Store) (call : Call) (number : ℕ) → firstRefusal (refusals (viewState s) store call) ≡ none
-    → replyOf (accepts s store call .answered .answer) ≡ refused number → ⊥)
-    → RefusedGivesBack (λ s store call. called s store call (accepts s store call))
+-- they give back what they were handed, where what is given without a refusal does
+pub called-gives-back : (accepts : Step) → RefusedGivesBack accepts → RefusedGivesBack (λ s store call. called s store call (accepts s store call))
 unfolding called settled
-called-gives-back accepts never s store call number e = go (firstRefusal (refusals (viewState s) store call)) refl e
+called-gives-back accepts back s store call number e = go (firstRefusal (refusals (viewState s) store call)) e
   where
-    go : (refusal : Option ℕ) → firstRefusal (refusals (viewState s) store call) ≡ refusal
-        → replyOf (settled s store refusal (accepts s store call) .answered .answer) ≡ refused number
+    go : (refusal : Option ℕ) → replyOf (settled s store refusal (accepts s store call) .answered .answer) ≡ refused number
         → (settled s store refusal (accepts s store call) .answered .state ≡ s) × (settled s store refusal (accepts s store call) .store ≡ store)
-    go none is e = absurd (never s store call number is e)
-    go (some n) is e = (refl, refl)
+    go none e = back s store call number e
+    go (some n) e = (refl, refl)
+
+-- "The list without its refused calls, from the same start, gives every other call the same answer and ends with equal state and store.":
+-- of the twelve calls in code, the state as a struct
+pub same-without-refused : (s : State) (store : Store) (calls : List Call) → SameWithoutRefused exactStep s store calls
+same-without-refused s store calls = without-refused exactStep (called-gives-back accepts accepts-back) s store calls

@@ -1,1 +1,4 @@
 pub mod Run
+pub mod Answers
+pub mod WholeList
+pub mod Loaded

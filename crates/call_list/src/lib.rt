@@ -1,1 +1,106 @@
 // Lists of calls, each handed the state and store that the one before left.
+pub mod loaded;
+
+use call_rows::answer_words::answer_words;
+use call_rows::row::Row;
+use call_rows::row::RowRequest;
+use call_rows::row::row_at;
+use call_rows::row::row_block;
+use call_rows::row::row_request;
+use call_rows::row_list::rows_well_formed;
+use manager::call;
+use state::answer::Answer;
+use state::answer::Answered;
+use state::answer::refused;
+use state::refusal::BAD_STATE;
+use state::state::State;
+ghost use mathlib.Core.Path.{_≡_};
+ghost use mathlib.Core.Bool.{true};
+ghost use mathlib.Core.List.{List, [], _∷_};
+ghost use mathlib.Core.Option.{some};
+ghost use Prim.Native.Nat.{_+_, _/_, _≤_};
+ghost use lib.ListN.{length};
+ghost use lib.Seq.{sets};
+ghost use Rattle.model.specs.Calls.{Call};
+ghost use Rattle.state.specs.View.{viewState};
+ghost use Rattle.state.specs.Outcome.{replyOf, outcome};
+ghost use Rattle.call_rows.specs.Rows.{decoded, isGiven};
+ghost use Rattle.call_rows.specs.Answers.{answerWords};
+ghost use Rattle.call_list.specs.WholeList.{ended, answeredWith, listEnds, viewEnded, modelListEnds, RowMade, MadeFrom};
+
+// Whether every call of a list was made, or the list was refused whole.
+pub enum ListAnswer {
+    Made,
+    Malformed,
+    ShortAnswers,
+}
+
+pub struct Ran {
+    pub answer: ListAnswer,
+    pub state: State,
+}
+
+// The call of a row is made. Of a malformed row nothing is said: `run` looks at all rows before it makes the first call.
+fn make_call(s: State, store: &mut [u8], row: Row, bytes: &[u8]) -> Answered
+    ensures { λ r. ⌜ RowMade s (now (store .entry)) row (now (bytes .entry)) (outcome r (now (store .exit))) ⌝ }
+{
+    let RowRequest::WellFormed(request) = row_request(row, bytes.len()) else {
+        return refused(s, BAD_STATE);
+    };
+    call(s, store, request, row_block(row, bytes))
+}
+
+// The two words of an answer are put into the slice at a place. There is room, which `run` sees before it makes the first call.
+fn put_answer(answers: &mut [u32], at: usize, answer: Answer)
+    requires { ⌜ at + 2 ≤ length (now answers) ⌝ }
+    ensures { λ r. ⌜ now (answers .exit) ≡ sets (now (answers .entry)) at (answerWords (replyOf answer) .kind ∷ answerWords (replyOf answer) .value ∷ []) ⌝ }
+{
+    let words = answer_words(answer);
+    answers[at] = words.kind;
+    answers[at + 1] = words.value;
+}
+
+// Every call of the rows is made, each with the state and store that the one before left. `run` checks what is required.
+fn make_all(s: State, store: &mut [u8], words: &[u32], bytes: &[u8], answers: &mut [u32]) -> State
+    requires { ⌜ isGiven (decoded (now words) (now bytes)) ≡ true ⌝ }
+    requires { ⌜ length (now words) / 3 ≤ length (now answers) ⌝ }
+    ensures { λ r. ⌜ ((calls : List Call) → decoded (now (words .entry)) (now (bytes .entry)) ≡ some calls → MadeFrom s (now (store .entry)) (now (answers .entry)) calls r (now (store .exit)) (now (answers .exit))) ⌝ }
+{
+    let mut state = s;
+    let mut i = 0;
+    let mut at = 0;
+    while i < words.len() {
+        let r = make_call(state, store, row_at(words, i), bytes);
+        let answer = r.answer;
+        put_answer(answers, at, answer);
+        state = r.state;
+        i += 6;
+        at += 2;
+    }
+    state
+}
+
+fn answered_with(answer: ListAnswer, s: State) -> Ran
+    ensures { λ r. ⌜ r ≡ answeredWith answer s ⌝ }
+{
+    Ran {
+        answer: answer,
+        state: s,
+    }
+}
+
+// A list of calls in rows of six words, with their blocks in a byte string, is made from a state and a store. The answers are two words
+// for each call. A malformed list, or one with more calls than there is room for answers, is refused whole before anything is changed.
+pub fn run(s: State, store: &mut [u8], words: &[u32], bytes: &[u8], answers: &mut [u32]) -> Ran
+    ensures meaning { λ r. ⌜ viewEnded (ended r (now (store .exit)) (now (answers .exit))) ≡ modelListEnds (viewState s) (now (store .entry)) (now (answers .entry)) (decoded (now (words .entry)) (now (bytes .entry))) ⌝ }
+    ensures exact { λ r. ⌜ ended r (now (store .exit)) (now (answers .exit)) ≡ listEnds s (now (store .entry)) (now (answers .entry)) (decoded (now (words .entry)) (now (bytes .entry))) ⌝ }
+{
+    if !rows_well_formed(words, bytes) {
+        return answered_with(ListAnswer::Malformed, s);
+    }
+    if words.len() / 3 > answers.len() {
+        return answered_with(ListAnswer::ShortAnswers, s);
+    }
+    let state = make_all(s, store, words, bytes, answers);
+    answered_with(ListAnswer::Made, state)
+}

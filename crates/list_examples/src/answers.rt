@@ -1,0 +1,48 @@
+// What the calls of a list answer, printed.
+use cases::show;
+use state::phase::phase_number;
+use state::state::State;
+
+// The name of an answer by its two words.
+fn show_answer(kind: u32, value: u32) {
+    match kind {
+        0 => {
+            show::bytes(b"id ");
+            show::number(value);
+        }
+        1 => show::bytes(b"Done"),
+        2 => show::bytes(b"Working"),
+        3 => show::bytes(b"Processed"),
+        4 => show::bytes(b"Cancelled"),
+        5 => show::bytes(b"Inconsistent"),
+        6 => show::bytes(b"PreActivationFailed"),
+        7 => show::bytes(b"MissingDependencies"),
+        8 => show::bytes(b"VerificationFailed"),
+        9 => show::bytes(b"NotAbleToRollback"),
+        10 => show::bytes(b"NotAbleToRevert"),
+        11 => show::bytes(b"CleaningFailed"),
+        _ => {
+            show::bytes(b"refused ");
+            show::number(value);
+        }
+    }
+}
+
+// Two words for each answer.
+pub fn show_answers(words: &[u32]) {
+    let mut i = 0;
+    while i + 1 < words.len() {
+        show::byte(b' ');
+        show_answer(words[i], words[i + 1]);
+        show::byte(b',');
+        i += 2;
+    }
+}
+
+// The number of the manager's state, which ends the line.
+pub fn show_state(s: State) {
+    show::bytes(b" state ");
+    let phase = s.phase;
+    show::count(phase_number(phase));
+    show::byte(b'\n');
+}

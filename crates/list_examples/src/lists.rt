@@ -1,0 +1,98 @@
+// A case: a sentence, the first transfer id, a cluster list, the words of a list of calls, the words of further calls, a row to a line,
+// and the byte string with the blocks. Without further calls the answers of the list are printed. Else each further call is made alone,
+// with the state and store that the list left, and its answer is printed. Then the number of the manager's state.
+use crate::answers::show_answers;
+use crate::answers::show_state;
+use crate::words::put_words;
+use call_list::ListAnswer;
+use call_list::loaded::LoadedAnswer;
+use call_list::loaded::LoadedRan;
+use call_list::loaded::load_and_run;
+use call_list::run;
+use cases::case::field;
+use cases::show;
+use cases::values::number_of;
+use clusters::table::empty_table;
+use state::state::loaded_state;
+
+// The list is run from the table of the case.
+fn run_list(case: &[u8], words: &[u32], store: &mut [u8], answers: &mut [u32]) -> LoadedRan {
+    let first = number_of(field(case, 1));
+    let handed_in = loaded_state(empty_table(), 1);
+    load_and_run(
+        handed_in,
+        field(case, 2),
+        first,
+        store,
+        words,
+        field(case, 5),
+        answers,
+    )
+}
+
+fn play_list(case: &[u8], words: &[u32]) {
+    let mut store = [255u8; 2000];
+    let mut answers = [0u32; 400];
+    let ran = run_list(case, words, &mut store, &mut answers);
+    let answer = ran.answer;
+    match answer {
+        LoadedAnswer::Made => {
+            let end = words.len() / 3;
+            if end <= 400 {
+                show_answers(&answers[..end]);
+            }
+            show_state(ran.state);
+        }
+        LoadedAnswer::BadLoad => show::bytes(b" refused 20\n"),
+        LoadedAnswer::Malformed => show::bytes(b" malformed\n"),
+        LoadedAnswer::ShortAnswers => show::bytes(b" more calls than answers\n"),
+    }
+}
+
+// The further call of a row, behind the list.
+fn play_further_call(case: &[u8], words: &[u32], row: &[u8]) {
+    let mut store = [255u8; 2000];
+    let mut answers = [0u32; 400];
+    let before = run_list(case, words, &mut store, &mut answers);
+    let mut row_words = [0u32; 6];
+    put_words(&mut row_words, row);
+    let ran = run(
+        before.state,
+        &mut store,
+        &row_words,
+        field(case, 5),
+        &mut answers,
+    );
+    let answer = ran.answer;
+    match answer {
+        ListAnswer::Made => {
+            show_answers(&answers[..2]);
+            show_state(ran.state);
+        }
+        ListAnswer::Malformed => show::bytes(b" malformed\n"),
+        ListAnswer::ShortAnswers => show::bytes(b" more calls than answers\n"),
+    }
+}
+
+fn play_further(case: &[u8], words: &[u32]) {
+    show::byte(b'\n');
+    let further = field(case, 4);
+    let mut at = 0;
+    while at < further.len() {
+        let end = bytes::scan::find(further, at, further.len(), b'\n');
+        play_further_call(case, words, &further[at..end]);
+        at = end + 1;
+    }
+}
+
+pub fn play(case: &[u8]) {
+    show::bytes(field(case, 0));
+    show::byte(b':');
+    let mut words = [0u32; 1024];
+    let count = put_words(&mut words, field(case, 3));
+    if field(case, 4).len() == 0 {
+        play_list(case, &words[..count]);
+    } else {
+        play_further(case, &words[..count]);
+    }
+}

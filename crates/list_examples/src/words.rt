@@ -1,0 +1,23 @@
+// The words of a list of calls, as a field of a case says them: decimal numbers parted by blanks.
+use cases::values::number_of;
+ghost use mathlib.Core.Path.{_≡_};
+ghost use Prim.Native.Nat.{_≤_};
+ghost use lib.ListN.{length};
+
+// The words of a text are put into the slice, as many as have room; the answer is how many.
+pub fn put_words(words: &mut [u32], text: &[u8]) -> usize
+    ensures { λ r. ⌜ (r ≤ length (now (words .entry))) × (length (now (words .exit)) ≡ length (now (words .entry))) ⌝ }
+{
+    let mut count = 0;
+    let mut at = 0;
+    while at < text.len() {
+        let end = bytes::scan::find(text, at, text.len(), b' ');
+        let word = number_of(&text[at..end]);
+        if count < words.len() {
+            words[count] = word;
+            count += 1;
+        }
+        at = end + 1;
+    }
+    count
+}

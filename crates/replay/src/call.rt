@@ -6,51 +6,45 @@ use crate::bench::with_store;
 use crate::show::show_answer;
 use crate::show::show_text;
 use crate::show::show_unknown;
+use cancel_processing::cancel;
+use delete_transfer::delete_transfer;
+use process_package::process;
+use report::report;
 use request::Request;
 use script_bytes::block::block_length;
 use script_bytes::block::put_block;
+use session_calls::activate::activate;
+use session_calls::finish::finish;
+use session_calls::revert::revert;
+use session_calls::rollback::rollback;
 use state::answer::Answer;
 use state::answer::Answered;
-use state::answer::refused;
 use state::state::State;
+use transfer_data::transfer_data;
+use transfer_exit::transfer_exit;
+use transfer_start::transfer_start;
+use work_on_payload::work;
 
-// Whether a call stands. Process, Work and Report do not yet: their lines are `unknown`.
-fn stands(request: Request) -> bool {
-    match request {
-        Request::Process(_) => false,
-        Request::Work(_) => false,
-        Request::Report(_) => false,
-        _ => true,
-    }
-}
-
-// One call of the twelve, of those that stand.
+// One call of the twelve.
 fn make_call(s: State, store: &mut [u8], request: Request, block: &[u8]) -> Answered {
     match request {
-        Request::TransferStart(size) => transfer_start::transfer_start(s, store, size),
-        Request::TransferData(id, counter) => transfer_data::transfer_data(
-            s,
-            store,
-            id,
-            counter,
-            block,
-        ),
-        Request::TransferExit(id) => transfer_exit::transfer_exit(s, store, id),
-        Request::DeleteTransfer(id) => delete_transfer::delete_transfer(s, store, id),
-        Request::Cancel(id) => cancel_processing::cancel(s, store, id),
-        Request::Revert => session_calls::revert::revert(s, store),
-        Request::Activate => session_calls::activate::activate(s, store),
-        Request::Rollback => session_calls::rollback::rollback(s, store),
-        Request::Finish => session_calls::finish::finish(s, store),
-        _ => refused(s, 0),
+        Request::TransferStart(size) => transfer_start(s, store, size),
+        Request::TransferData(id, counter) => transfer_data(s, store, id, counter, block),
+        Request::TransferExit(id) => transfer_exit(s, store, id),
+        Request::DeleteTransfer(id) => delete_transfer(s, store, id),
+        Request::Process(id) => process(s, store, id),
+        Request::Work(n) => work(s, store, n),
+        Request::Cancel(id) => cancel(s, store, id),
+        Request::Revert => revert(s, store),
+        Request::Activate => activate(s, store),
+        Request::Rollback => rollback(s, store),
+        Request::Finish => finish(s, store),
+        Request::Report(good) => report(s, store, good),
     }
 }
 
 // A call of the twelve, with the block that is lent to it.
 pub fn call_line(bench: Bench, store: &mut [u8], request: Request, block: &[u8]) -> Bench {
-    if !stands(request) {
-        return after_write(bench, show_unknown());
-    }
     let s = bench.state;
     let made = make_call(s, store, request, block);
     let answer = made.answer;

@@ -1,4 +1,7 @@
 // The lines that change the state or the store.
+ghost use mathlib.Core.Path.{_≡_};
+ghost use Rattle.replay.specs.Bench.{Keeps, isRefusal, stateThen, lengthThen, poked};
+ghost use Rattle.script_bytes.specs.Block.{blockBytes};
 use crate::bench::Bench;
 use crate::bench::after_write;
 use crate::bench::with_state;
@@ -44,7 +47,9 @@ fn make_call(s: State, store: &mut [u8], request: Request, block: &[u8]) -> Answ
 }
 
 // A call of the twelve, with the block that is lent to it.
-pub fn call_line(bench: Bench, store: &mut [u8], request: Request, block: &[u8]) -> Bench {
+pub fn call_line(bench: Bench, store: &mut [u8], request: Request, block: &[u8]) -> Bench
+    ensures { λ r. ⌜ r .«store_length» ≡ bench .«store_length» ⌝ }
+{
     let s = bench.state;
     let made = make_call(s, store, request, block);
     let answer = made.answer;
@@ -68,11 +73,34 @@ pub fn data_line(
     call_line(bench, store, request, &buffer[..end])
 }
 
+// Whether an answer is a refusal.
+fn is_refusal(answer: Answer) -> bool
+    ensures { λ r. ⌜ r ≡ isRefusal answer ⌝ }
+{
+    match answer {
+        Answer::Id(_) => false,
+        Answer::Done => false,
+        Answer::Working => false,
+        Answer::Processed => false,
+        Answer::Cancelled => false,
+        Answer::Inconsistent => false,
+        Answer::PreActivationFailed => false,
+        Answer::MissingDependencies => false,
+        Answer::VerificationFailed => false,
+        Answer::NotAbleToRollback => false,
+        Answer::NotAbleToRevert => false,
+        Answer::CleaningFailed => false,
+        Answer::Refused(_) => true,
+    }
+}
+
 // "A refused Load leaves the state and the store that were there before it."
-fn loaded(bench: Bench, made: Answered, size: usize) -> Bench {
+fn loaded(bench: Bench, made: Answered, size: usize) -> Bench
+    ensures { λ r. ⌜ Keeps (stateThen (made .answer) (bench .state) (made .state)) (lengthThen (made .answer) (bench .«store_length») size) r ⌝ }
+{
     let answer = made.answer;
     let is_written = show_answer(answer);
-    if let Answer::Refused(_) = answer {
+    if is_refusal(answer) {
         return after_write(bench, is_written);
     }
     let next = made.state;
@@ -102,7 +130,10 @@ pub fn load_line(
 }
 
 // Another writer puts the bytes that a word stands for into the store.
-pub fn poke_line(bench: Bench, store: &mut [u8], at: u32, word: &[u8]) -> Bench {
+pub fn poke_line(bench: Bench, store: &mut [u8], at: u32, word: &[u8]) -> Bench
+    ensures bench { λ r. ⌜ Keeps (bench .state) (bench .«store_length») r ⌝ }
+    ensures store { λ r. ⌜ now (store .exit) ≡ poked at (blockBytes (now (word .entry))) (now (store .entry)) ⌝ }
+{
     let from = at as usize;
     if store.len() < from {
         return after_write(bench, show_unknown());

@@ -1,4 +1,6 @@
 // What the program keeps from line to line, beside the bytes of its store.
+ghost use mathlib.Core.Path.{_≡_};
+ghost use Rattle.replay.specs.Bench.{NothingLoaded, Keeps};
 use clusters::table::empty_table;
 use state::state::State;
 use state::state::loaded_state;
@@ -26,7 +28,9 @@ pub fn nothing_gathered() -> Gathered {
 }
 
 // A store of no bytes, and a state that is not sound: its next id is 0.
-pub fn first_bench() -> Bench {
+pub fn first_bench() -> Bench
+    ensures { λ r. ⌜ NothingLoaded r ⌝ }
+{
     let state = loaded_state(empty_table(), 0);
     let gathered = nothing_gathered();
     Bench {
@@ -38,28 +42,36 @@ pub fn first_bench() -> Bench {
 }
 
 // The bench after a write.
-pub fn after_write(bench: Bench, is_written: bool) -> Bench {
+pub fn after_write(bench: Bench, is_written: bool) -> Bench
+    ensures { λ r. ⌜ Keeps (bench .state) (bench .«store_length») r ⌝ }
+{
     let mut after = bench;
     after.goes_on = is_written;
     after
 }
 
 // The bench with another state.
-pub fn with_state(bench: Bench, state: State) -> Bench {
+pub fn with_state(bench: Bench, state: State) -> Bench
+    ensures { λ r. ⌜ Keeps state (bench .«store_length») r ⌝ }
+{
     let mut after = bench;
     after.state = state;
     after
 }
 
 // The bench with another store, of which the program keeps the length.
-pub fn with_store(bench: Bench, length: usize) -> Bench {
+pub fn with_store(bench: Bench, length: usize) -> Bench
+    ensures { λ r. ⌜ Keeps (bench .state) length r ⌝ }
+{
     let mut after = bench;
     after.store_length = length;
     after
 }
 
 // The bench with what is gathered of a line.
-pub fn with_gathered(bench: Bench, gathered: Gathered) -> Bench {
+pub fn with_gathered(bench: Bench, gathered: Gathered) -> Bench
+    ensures { λ r. ⌜ Keeps (bench .state) (bench .«store_length») r ⌝ }
+{
     let mut after = bench;
     after.gathered = gathered;
     after

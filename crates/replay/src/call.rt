@@ -1,4 +1,7 @@
 // The lines that change the state or the store.
+ghost use mathlib.Core.Path.{_≡_};
+ghost use Rattle.replay.specs.Bench.{Keeps, isRefusal, stateThen, lengthThen, poked};
+ghost use Rattle.script_bytes.specs.Block.{blockBytes};
 use crate::bench::Bench;
 use crate::bench::after_write;
 use crate::bench::with_state;
@@ -6,51 +9,47 @@ use crate::bench::with_store;
 use crate::show::show_answer;
 use crate::show::show_text;
 use crate::show::show_unknown;
+use cancel_processing::cancel;
+use delete_transfer::delete_transfer;
+use process_package::process;
+use report::report;
 use request::Request;
 use script_bytes::block::block_length;
 use script_bytes::block::put_block;
+use session_calls::activate::activate;
+use session_calls::finish::finish;
+use session_calls::revert::revert;
+use session_calls::rollback::rollback;
 use state::answer::Answer;
 use state::answer::Answered;
-use state::answer::refused;
 use state::state::State;
+use transfer_data::transfer_data;
+use transfer_exit::transfer_exit;
+use transfer_start::transfer_start;
+use work_on_payload::work;
 
-// Whether a call stands. Process, Work and Report do not yet: their lines are `unknown`.
-fn stands(request: Request) -> bool {
-    match request {
-        Request::Process(_) => false,
-        Request::Work(_) => false,
-        Request::Report(_) => false,
-        _ => true,
-    }
-}
-
-// One call of the twelve, of those that stand.
+// One call of the twelve.
 fn make_call(s: State, store: &mut [u8], request: Request, block: &[u8]) -> Answered {
     match request {
-        Request::TransferStart(size) => transfer_start::transfer_start(s, store, size),
-        Request::TransferData(id, counter) => transfer_data::transfer_data(
-            s,
-            store,
-            id,
-            counter,
-            block,
-        ),
-        Request::TransferExit(id) => transfer_exit::transfer_exit(s, store, id),
-        Request::DeleteTransfer(id) => delete_transfer::delete_transfer(s, store, id),
-        Request::Cancel(id) => cancel_processing::cancel(s, store, id),
-        Request::Revert => session_calls::revert::revert(s, store),
-        Request::Activate => session_calls::activate::activate(s, store),
-        Request::Rollback => session_calls::rollback::rollback(s, store),
-        Request::Finish => session_calls::finish::finish(s, store),
-        _ => refused(s, 0),
+        Request::TransferStart(size) => transfer_start(s, store, size),
+        Request::TransferData(id, counter) => transfer_data(s, store, id, counter, block),
+        Request::TransferExit(id) => transfer_exit(s, store, id),
+        Request::DeleteTransfer(id) => delete_transfer(s, store, id),
+        Request::Process(id) => process(s, store, id),
+        Request::Work(n) => work(s, store, n),
+        Request::Cancel(id) => cancel(s, store, id),
+        Request::Revert => revert(s, store),
+        Request::Activate => activate(s, store),
+        Request::Rollback => rollback(s, store),
+        Request::Finish => finish(s, store),
+        Request::Report(good) => report(s, store, good),
     }
 }
 
 // A call of the twelve, with the block that is lent to it.
-pub fn call_line(bench: Bench, store: &mut [u8], request: Request, block: &[u8]) -> Bench {
-    if !stands(request) {
-        return after_write(bench, show_unknown());
-    }
+pub fn call_line(bench: Bench, store: &mut [u8], request: Request, block: &[u8]) -> Bench
+    ensures { λ r. ⌜ r .«store_length» ≡ bench .«store_length» ⌝ }
+{
     let s = bench.state;
     let made = make_call(s, store, request, block);
     let answer = made.answer;
@@ -74,11 +73,34 @@ pub fn data_line(
     call_line(bench, store, request, &buffer[..end])
 }
 
+// Whether an answer is a refusal.
+fn is_refusal(answer: Answer) -> bool
+    ensures { λ r. ⌜ r ≡ isRefusal answer ⌝ }
+{
+    match answer {
+        Answer::Id(_) => false,
+        Answer::Done => false,
+        Answer::Working => false,
+        Answer::Processed => false,
+        Answer::Cancelled => false,
+        Answer::Inconsistent => false,
+        Answer::PreActivationFailed => false,
+        Answer::MissingDependencies => false,
+        Answer::VerificationFailed => false,
+        Answer::NotAbleToRollback => false,
+        Answer::NotAbleToRevert => false,
+        Answer::CleaningFailed => false,
+        Answer::Refused(_) => true,
+    }
+}
+
 // "A refused Load leaves the state and the store that were there before it."
-fn loaded(bench: Bench, made: Answered, size: usize) -> Bench {
+fn loaded(bench: Bench, made: Answered, size: usize) -> Bench
+    ensures { λ r. ⌜ Keeps (stateThen (made .answer) (bench .state) (made .state)) (lengthThen (made .answer) (bench .«store_length») size) r ⌝ }
+{
     let answer = made.answer;
     let is_written = show_answer(answer);
-    if let Answer::Refused(_) = answer {
+    if is_refusal(answer) {
         return after_write(bench, is_written);
     }
     let next = made.state;
@@ -108,7 +130,10 @@ pub fn load_line(
 }
 
 // Another writer puts the bytes that a word stands for into the store.
-pub fn poke_line(bench: Bench, store: &mut [u8], at: u32, word: &[u8]) -> Bench {
+pub fn poke_line(bench: Bench, store: &mut [u8], at: u32, word: &[u8]) -> Bench
+    ensures bench { λ r. ⌜ Keeps (bench .state) (bench .«store_length») r ⌝ }
+    ensures store { λ r. ⌜ now (store .exit) ≡ poked at (blockBytes (now (word .entry))) (now (store .entry)) ⌝ }
+{
     let from = at as usize;
     if store.len() < from {
         return after_write(bench, show_unknown());

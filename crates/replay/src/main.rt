@@ -3,6 +3,7 @@
 mod bench;
 mod call;
 mod gather;
+mod packages;
 mod play;
 mod reading;
 mod show;

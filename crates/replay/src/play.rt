@@ -7,7 +7,7 @@ use crate::call::call_line;
 use crate::call::data_line;
 use crate::call::load_line;
 use crate::call::poke_line;
-use crate::reading::report_line;
+use crate::reading::reading_line;
 use crate::show::show_text;
 use request::Request;
 use script::line::Line;
@@ -39,7 +39,7 @@ fn play_read(bench: Bench, store: &mut [u8], text: &[u8], line: Line, buffer: &m
         Line::Poke { at, bytes } => poke_line(bench, store, at, part_at(text, bytes)),
         _ => {
             let s = bench.state;
-            after_write(bench, report_line(s, store, line))
+            after_write(bench, reading_line(s, store, line, buffer))
         }
     }
 }

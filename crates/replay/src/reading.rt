@@ -1,8 +1,15 @@
 // The lines that change nothing.
+ghost use Prim.Native.Nat.{_≤_};
+ghost use lib.ListN.{length};
+use crate::packages::show_packages;
 use crate::show::show_answer;
 use crate::show::show_bytes;
 use crate::show::show_number;
+use crate::show::show_text;
 use crate::show::show_unknown;
+use change_info::change_info;
+use cluster_info::cluster_info;
+use packages_report::by_value::packages_by_value;
 use payload::payload;
 use payload::payload_check;
 use progress::progress;
@@ -11,29 +18,74 @@ use script::line::Line;
 use state::answer::Answer;
 use state::state::State;
 
-// A number of a report as 32 bits: those of every report are less.
-fn small(n: usize) -> u32 {
+// A number of a report as 32 bits: each is far below their end.
+pub fn small(n: usize) -> u32 {
     if 4294967295 < n {
         return 4294967295;
     }
     n as u32
 }
 
-// The reply of Progress.
-fn show_progress(reply: ReadingReply) -> bool {
+// How much of a buffer is lent: as much as a line says, and at most all.
+fn room_within(room: u32, most: usize) -> usize
+    ensures { λ r. ⌜ r ≤ most ⌝ }
+{
+    let n = room as usize;
+    if most < n {
+        return most;
+    }
+    n
+}
+
+// A reply that gives no number: a refusal, or the number by its name.
+pub fn show_reply(name: &[u8], reply: ReadingReply) -> bool
+    requires { ⌜ length (now name) ≤ 20 ⌝ }
+{
     match reply {
         ReadingReply::Refused(number) => show_answer(Answer::Refused(number)),
         ReadingReply::ShortBuffer(needed) => show_number(b"refused 19 ", small(needed)),
-        ReadingReply::Given(percent) => show_number(b"progress ", small(percent)),
+        ReadingReply::Given(n) => show_number(name, small(n)),
     }
 }
 
-// Packages, ClusterInfo and ChangeInfo do not stand yet: their lines are `unknown`.
-pub fn report_line(s: State, store: &[u8], line: Line) -> bool {
+// The reply of a report, and the bytes that it wrote.
+fn show_report(reply: ReadingReply, buffer: &[u8]) -> bool {
+    let is_written = show_reply(b"bytes ", reply);
+    let ReadingReply::Given(n) = reply else {
+        return is_written;
+    };
+    if !is_written {
+        return false;
+    }
+    if buffer.len() < n {
+        return false;
+    }
+    show_text(&buffer[..n])
+}
+
+// ClusterInfo into the first bytes of a buffer.
+fn clusters_line(s: State, store: &[u8], room: u32, buffer: &mut [u8]) -> bool {
+    let lent = room_within(room, buffer.len());
+    let reply = cluster_info(s, store, &mut buffer[..lent]);
+    show_report(reply, buffer)
+}
+
+// ChangeInfo into the first bytes of a buffer.
+fn changes_line(s: State, store: &[u8], room: u32, buffer: &mut [u8]) -> bool {
+    let lent = room_within(room, buffer.len());
+    let reply = change_info(s, store, &mut buffer[..lent]);
+    show_report(reply, buffer)
+}
+
+// A line of a reading call, or the one that shows the store. Any other is `unknown`.
+pub fn reading_line(s: State, store: &[u8], line: Line, buffer: &mut [u8]) -> bool {
     match line {
+        Line::Packages { room } => show_packages(packages_by_value(s, store, room as usize)),
+        Line::Clusters { room } => clusters_line(s, store, room, buffer),
+        Line::Changes { room } => changes_line(s, store, room, buffer),
         Line::Payload { id } => show_bytes(b"payload ", payload(s, store, id)),
         Line::Check { id } => show_number(b"check ", payload_check(s, store, id)),
-        Line::Progress => show_progress(progress(s, store)),
+        Line::Progress => show_reply(b"progress ", progress(s, store)),
         Line::Store => show_bytes(b"store ", store),
         _ => show_unknown(),
     }

@@ -1,11 +1,10 @@
-// Lines of a name and a number.
+// Lines with numbers.
 ghost use Prim.Native.Nat.{_+_, _≤_, _<_};
 ghost use mathlib.Core.List.{[], _∷_};
 ghost use lib.ListN.{length};
 ghost use Rattle.io.specs.Counts.{Counts};
-ghost use Rattle.base.specs.Quoted.{LF};
 ghost use Rattle.text.specs.Put.{Put};
-ghost use Rattle.script_answers.specs.Answers.{namedLine, numberDigitsMost};
+ghost use Rattle.script_answers.specs.Answers.{namedLine, endedNumber, recordLine, numberDigitsMost, recordMost};
 use text::write::put_bytes;
 use text::write::put_number;
 
@@ -18,12 +17,22 @@ pub fn put_line(buf: &mut [u8], text: &[u8]) -> usize
     put_bytes(buf, 0, text)
 }
 
-// The LF that ends a line. `put_named` has room for it.
-fn put_end(buf: &mut [u8], at: usize) -> usize
-    requires { ⌜ at < length (now buf) ⌝ }
-    ensures { λ r. ⌜ Put (now (buf .entry)) at (LF ∷ []) r (now (buf .exit)) ⌝ }
+// A number and the byte that ends it. Its callers have room for every number.
+fn put_ended(buf: &mut [u8], at: usize, n: u32, end: u8) -> usize
+    requires { ⌜ at + (numberDigitsMost + 1) ≤ length (now buf) ⌝ }
+    ensures number { λ r. ⌜ Put (now (buf .entry)) at (endedNumber n end) r (now (buf .exit)) ⌝ }
+    ensures short { λ r. ⌜ r ≤ at + (numberDigitsMost + 1) ⌝ }
 {
-    buf[at] = b'\n';
+    let behind = put_number(buf, at, n);
+    put_byte(buf, behind, end)
+}
+
+// One byte. `put_ended` has room for it.
+fn put_byte(buf: &mut [u8], at: usize, b: u8) -> usize
+    requires { ⌜ at < length (now buf) ⌝ }
+    ensures { λ r. ⌜ Put (now (buf .entry)) at (b ∷ []) r (now (buf .exit)) ⌝ }
+{
+    buf[at] = b;
     at + 1
 }
 
@@ -34,6 +43,17 @@ pub fn put_named(buf: &mut [u8], at: usize, name: &[u8], n: u32) -> usize
     ensures inside { λ r. ⌜ Counts r (now (buf .exit)) ⌝ }
 {
     let behind_name = put_bytes(buf, at, name);
-    let end = put_number(buf, behind_name, n);
-    put_end(buf, end)
+    put_ended(buf, behind_name, n, b'\n')
+}
+
+// A record of Packages at the start of a buffer. The program lends one with room for every record.
+pub fn put_record(buf: &mut [u8], id: u32, size: u32, received: u32, state: u32) -> usize
+    requires { ⌜ recordMost ≤ length (now buf) ⌝ }
+    ensures line { λ r. ⌜ Put (now (buf .entry)) 0 (recordLine id size received state) r (now (buf .exit)) ⌝ }
+    ensures inside { λ r. ⌜ Counts r (now (buf .exit)) ⌝ }
+{
+    let behind_id = put_ended(buf, 0, id, b',');
+    let behind_size = put_ended(buf, behind_id, size, b',');
+    let behind_received = put_ended(buf, behind_size, received, b',');
+    put_ended(buf, behind_received, state, b'\n')
 }

@@ -28,10 +28,13 @@ fn show_answer(kind: u32, value: u32) {
     }
 }
 
-// Two words for each answer.
-pub fn show_answers(words: &[u32]) {
+// The first so many words, two for each answer.
+pub fn show_answers(words: &[u32], count: usize) {
     let mut i = 0;
-    while i + 1 < words.len() {
+    while i < count {
+        if words.len() - i < 2 {
+            return;
+        }
         show::byte(b' ');
         show_answer(words[i], words[i + 1]);
         show::byte(b',');

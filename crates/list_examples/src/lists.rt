@@ -30,17 +30,12 @@ fn run_list(case: &[u8], words: &[u32], store: &mut [u8], answers: &mut [u32]) -
     )
 }
 
-fn play_list(case: &[u8], words: &[u32]) {
-    let mut store = [255u8; 2000];
-    let mut answers = [0u32; 400];
-    let ran = run_list(case, words, &mut store, &mut answers);
+fn show_list(case: &[u8], words: &[u32], store: &mut [u8], answers: &mut [u32]) {
+    let ran = run_list(case, words, store, answers);
     let answer = ran.answer;
     match answer {
         LoadedAnswer::Made => {
-            let end = words.len() / 3;
-            if end <= 400 {
-                show_answers(&answers[..end]);
-            }
+            show_answers(answers, words.len() / 3);
             show_state(ran.state);
         }
         LoadedAnswer::BadLoad => show::bytes(b" refused 20\n"),
@@ -49,29 +44,39 @@ fn play_list(case: &[u8], words: &[u32]) {
     }
 }
 
-// The further call of a row, behind the list.
-fn play_further_call(case: &[u8], words: &[u32], row: &[u8]) {
+fn play_list(case: &[u8], words: &[u32]) {
     let mut store = [255u8; 2000];
     let mut answers = [0u32; 400];
-    let before = run_list(case, words, &mut store, &mut answers);
-    let mut row_words = [0u32; 6];
-    put_words(&mut row_words, row);
-    let ran = run(
-        before.state,
-        &mut store,
-        &row_words,
-        field(case, 5),
-        &mut answers,
-    );
+    show_list(case, words, &mut store, &mut answers);
+}
+
+// The further call of a row, behind the list.
+fn show_further_call(
+    case: &[u8],
+    words: &[u32],
+    row: &[u32],
+    store: &mut [u8],
+    answers: &mut [u32],
+) {
+    let before = run_list(case, words, store, answers);
+    let ran = run(before.state, store, row, field(case, 5), answers);
     let answer = ran.answer;
     match answer {
         ListAnswer::Made => {
-            show_answers(&answers[..2]);
+            show_answers(answers, row.len() / 3);
             show_state(ran.state);
         }
         ListAnswer::Malformed => show::bytes(b" malformed\n"),
         ListAnswer::ShortAnswers => show::bytes(b" more calls than answers\n"),
     }
+}
+
+fn play_further_call(case: &[u8], words: &[u32], text: &[u8]) {
+    let mut store = [255u8; 2000];
+    let mut answers = [0u32; 400];
+    let mut row = [0u32; 6];
+    put_words(&mut row, text);
+    show_further_call(case, words, &row, &mut store, &mut answers);
 }
 
 fn play_further(case: &[u8], words: &[u32]) {
@@ -85,14 +90,19 @@ fn play_further(case: &[u8], words: &[u32]) {
     }
 }
 
-pub fn play(case: &[u8]) {
-    show::bytes(field(case, 0));
-    show::byte(b':');
-    let mut words = [0u32; 1024];
-    let count = put_words(&mut words, field(case, 3));
+// The words lend the room for the list.
+fn play_in(case: &[u8], words: &mut [u32]) {
+    let count = put_words(words, field(case, 3));
     if field(case, 4).len() == 0 {
         play_list(case, &words[..count]);
     } else {
         play_further(case, &words[..count]);
     }
+}
+
+pub fn play(case: &[u8]) {
+    show::bytes(field(case, 0));
+    show::byte(b':');
+    let mut words = [0u32; 1024];
+    play_in(case, &mut words);
 }

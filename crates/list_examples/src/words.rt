@@ -4,6 +4,18 @@ ghost use mathlib.Core.Path.{_≡_};
 ghost use Prim.Native.Nat.{_≤_};
 ghost use lib.ListN.{length};
 
+// A word is put at a place if that is in the slice; the answer is the next place.
+fn put_word(words: &mut [u32], at: usize, word: u32) -> usize
+    requires { ⌜ at ≤ length (now words) ⌝ }
+    ensures { λ r. ⌜ (r ≤ length (now (words .entry))) × (length (now (words .exit)) ≡ length (now (words .entry))) ⌝ }
+{
+    if at < words.len() {
+        words[at] = word;
+        return at + 1;
+    }
+    at
+}
+
 // The words of a text are put into the slice, as many as have room; the answer is how many.
 pub fn put_words(words: &mut [u32], text: &[u8]) -> usize
     ensures { λ r. ⌜ (r ≤ length (now (words .entry))) × (length (now (words .exit)) ≡ length (now (words .entry))) ⌝ }
@@ -12,11 +24,7 @@ pub fn put_words(words: &mut [u32], text: &[u8]) -> usize
     let mut at = 0;
     while at < text.len() {
         let end = bytes::scan::find(text, at, text.len(), b' ');
-        let word = number_of(&text[at..end]);
-        if count < words.len() {
-            words[count] = word;
-            count += 1;
-        }
+        count = put_word(words, count, number_of(&text[at..end]));
         at = end + 1;
     }
     count

@@ -17,7 +17,12 @@ use Rattle.state.specs.declared.state.State.{State}
 use Rattle.state.specs.Exact.{loadedState}
 use Rattle.state.specs.View.{viewState}
 use Rattle.state.proofs.Views.{view-loaded-state}
-use Rattle.replay_bench.specs.Bench.{poked}
+use Rattle.model.specs.State.{Store}
+use Rattle.model.specs.Step.{Outcome}
+use Rattle.state.specs.declared.answer.Answered.{Answered}
+use Rattle.state.specs.Outcome.{outcome, viewOutcome}
+use Rattle.replay_bench.specs.declared.bench.Bench.{Bench}
+use Rattle.replay_bench.specs.Bench.{Keeps, Made, poked}
 
 and-false : (a : Bool) → a && false ≡ false
 and-false true = refl
@@ -44,3 +49,12 @@ module _ (store text : List ℕ) (at : ℕ) where
     pub poke-fits : (next : ℕ) (m : List ℕ) → n ≤ length store - at → Put store at text next m → m ≡ poked at text store
     unfolding poked
     poke-fits next m h p = p .bytes ∙ rw (le-ltb (length store) (at + length text) (omega arith))
+
+-- a is what a call answered, w the bench with its state, and b that after the write
+pub call-made : (o : Outcome) (a : Answered) (bytes : Store) (n : ℕ) (w b : Bench) → viewOutcome (outcome a bytes) ≡ o → Keeps (a .state) n w
+    → Keeps (w .state) (w .«store_length») b → Made o n b bytes
+call-made o a bytes n w b e f g = record {
+  state = ap viewState (g .state ∙ f .state) ∙ ap (λ (x : Outcome). x .state) e;
+  store = ap (λ (x : Outcome). x .store) e;
+  long = g .long ∙ f .long;
+}

@@ -6,7 +6,9 @@ use mathlib.Core.List.{List}
 use lib.Dec.{ltb}
 use lib.ListN.{length}
 use lib.Seq.{sets}
+use Rattle.model.specs.State.{Store}
 use Rattle.model.specs.Sound.{soundFor}
+use Rattle.model.specs.Step.{Outcome}
 use Rattle.state.specs.declared.answer.Answer.{Answer}
 use Rattle.state.specs.declared.answer.Answer.the-variants.{Id, Done, Working, Processed, Cancelled, Inconsistent, PreActivationFailed, MissingDependencies, VerificationFailed, NotAbleToRollback, NotAbleToRevert, CleaningFailed, Refused}
 use Rattle.state.specs.declared.state.State.{State}
@@ -21,6 +23,12 @@ pub record NothingLoaded (b : Bench) : Type 0 where
 -- the bench holds the state and the length of the store
 pub record Keeps (s : State) (n : ℕ) (b : Bench) : Type 0 where
   pub state : b .state ≡ s
+  pub long : b .«store_length» ≡ n
+
+-- state and store are those that a call gives, and the store is as long as it was
+pub record Made (o : Outcome) (n : ℕ) (b : Bench) (bytes : Store) : Type 0 where
+  pub state : viewState (b .state) ≡ o .state
+  pub store : bytes ≡ o .store
   pub long : b .«store_length» ≡ n
 
 abbrev pub isRefusal : Answer → Bool

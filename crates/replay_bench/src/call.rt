@@ -1,6 +1,9 @@
 // The lines that change the state or the store.
 ghost use mathlib.Core.Path.{_≡_};
-ghost use Rattle.replay_bench.specs.Bench.{Keeps, isRefusal, stateThen, lengthThen, poked};
+ghost use Rattle.replay_bench.specs.Bench.{Keeps, isRefusal, stateThen, lengthThen, Made, poked};
+ghost use Rattle.model.specs.Step.{step};
+ghost use Rattle.request.specs.Call.{callOf};
+ghost use Rattle.state.specs.View.{viewState};
 ghost use Rattle.script_bytes.specs.Block.{blockBytes};
 use crate::bench::Bench;
 use crate::bench::after_write;
@@ -15,11 +18,10 @@ use script_bytes::block::block_length;
 use script_bytes::block::put_block;
 use state::answer::Answer;
 use state::answer::Answered;
-use state::state::State;
 
 // A call of the twelve, with the block that is lent to it.
 pub fn call_line(bench: Bench, store: &mut [u8], request: Request, block: &[u8]) -> Bench
-    ensures { λ r. ⌜ r .«store_length» ≡ bench .«store_length» ⌝ }
+    ensures { λ r. ⌜ Made (step (viewState (bench .state)) (now (store .entry)) (callOf request (now (block .entry)))) (bench .«store_length») r (now (store .exit)) ⌝ }
 {
     let s = bench.state;
     let made = call(s, store, request, block);

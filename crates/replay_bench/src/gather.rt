@@ -53,7 +53,7 @@ fn end_line(
     play_line(bench, store, &line[..length], buffer)
 }
 
-// A part of the input up to the next LF, or up to its end.
+// A part of the input up to the next LF, or up to its end; `behind_line` gives one with a byte.
 fn take_part(
     bench: Bench,
     store: &mut [u8],
@@ -77,7 +77,7 @@ fn take_part(
     )
 }
 
-// The position behind the next LF, or the end.
+// The position behind the next LF, or the end. `take_lines` gives a position within the input.
 fn behind_line(input: &[u8], at: usize) -> usize
     requires { ⌜ at < length (now input) ⌝ }
     ensures { λ r. ⌜ (at < r) × (r ≤ length (now (input .entry))) ⌝ }

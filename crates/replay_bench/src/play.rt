@@ -57,7 +57,7 @@ fn play_text(bench: Bench, store: &mut [u8], text: &[u8], line: Line, buffer: &m
     play_read(bench, &mut store[..length], text, line, buffer)
 }
 
-// A line with its LF. A remark is written as it stands.
+// A line with its LF, which `end_line` has seen to be there. A remark is written as it stands.
 pub fn play_line(bench: Bench, store: &mut [u8], line: &[u8], buffer: &mut [u8]) -> Bench
     requires { ⌜ 1 ≤ length (now line) ⌝ }
 {

@@ -37,7 +37,7 @@ fn room_within(room: u32, most: usize) -> usize
     n
 }
 
-// A reply that gives no number: a refusal, or the number by its name.
+// The reply of a reading call: a refusal, or its number by a name, which each caller has shorter than 20 bytes.
 pub fn show_reply(name: &[u8], reply: ReadingReply) -> bool
     requires { ⌜ length (now name) ≤ 20 ⌝ }
 {

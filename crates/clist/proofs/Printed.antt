@@ -11,7 +11,6 @@ use lib.Seq.{sets-eq}
 use denote.Enum.Declared.{tagOf}
 use types.Run.{OneOf, miss}
 use Rattle.base.specs.Quoted.{bytes, LF}
-use Rattle.base.specs.Refusals.{firstRefusal}
 use Rattle.base.proofs.Tests.{bool-cases}
 use Rattle.text.specs.Digits.{digits, digitsIn}
 use Rattle.text.specs.Put.{Put}
@@ -34,9 +33,9 @@ use Rattle.state.specs.declared.answer.Answer.{Answer}
 use Rattle.state.specs.declared.answer.Answer.the-variants.{Done, Refused}
 use Rattle.state.specs.declared.answer.Answered.{Answered}
 use Rattle.state.specs.View.{viewState}
-use Rattle.state.specs.Outcome.{Outcome, outcome, replyOf, viewOutcome, settled, SoundIfAccepted}
-use Rattle.state.proofs.answer.Answer as answer
+use Rattle.state.specs.Outcome.{Outcome, outcome, replyOf, viewOutcome, SoundIfAccepted}
 use Rattle.load.specs.Exact.{load}
+use Rattle.load.proofs.Told.{IsOther, bad-load, told-bad}
 use Rattle.reading_reply.specs.declared.ReadingReply.{ReadingReply}
 use Rattle.reading_reply.specs.declared.ReadingReply.the-variants.{Refused as RefusedReport, ShortBuffer, Given}
 use Rattle.reading_reply.specs.Reply as report
@@ -109,13 +108,6 @@ module _ (s : model.State) (store : Store) (ok : sound s store ≡ true) (old ne
 
 -- ---- Load in code: it answers Done or refuses by 20
 
--- the numbers of the answers other than Done, as the code's `else` knows them
-abbrev others : List ℕ
-others = 0 ∷ 2 ∷ 3 ∷ 4 ∷ 5 ∷ 6 ∷ 7 ∷ 8 ∷ 9 ∷ 10 ∷ 11 ∷ 12 ∷ []
-
-not-done : {X : Type 0} (a : Answer) → OneOf others (tagOf answer.the-type a) → a ≡ Done → X
-not-done a other d = absurd (miss others 1 tt (subst (λ (x : Answer). OneOf others (tagOf answer.the-type x)) d other))
-
 -- what the contract of `load` says of its answer and the store then
 module _ (input : List ℕ) (s : State) (r : Answered) (after : Store)
     (loads : (viewOutcome (outcome r after) ≡ loading.load (viewState s) input firstId [])
@@ -124,17 +116,14 @@ module _ (input : List ℕ) (s : State) (r : Answered) (after : Store)
   unfolding answerTo
   is-printed given = same-answer input given (viewState s) ∙ ap (λ (o : step.Outcome). printed (o .reply) (o .state)) (sym (loads .0))
 
-  refused-else : OneOf others (tagOf answer.the-type (r .answer)) → r .answer ≡ Refused 20
-  unfolding load settled firstRefusal
+  refused-else : IsOther (r .answer) → r .answer ≡ Refused 20
   refused-else other =
-      let is : r .answer ≡ load s input firstId [] .answered .answer = ap (λ (o : Outcome). o .answered .answer) (loads .1 .0) in
-      bool-cases (isBadLoad input firstId [])
-      (λ bad. is ∙ rw bad)
-      λ good. not-done (r .answer) other (is ∙ rw good)
+      let bad = told-bad s input firstId [] (outcome r after) (loads .1 .0) other in
+      ap (λ (o : Outcome). o .answered .answer) (loads .1 .0 ∙ bad-load s input firstId [] bad)
 
   -- ---- the ways out of `put_answer`
 
-  pub refused-put : (old new : List ℕ) (next : ℕ) → OneOf others (tagOf answer.the-type (r .answer)) → Put old 0 refusal next new
+  pub refused-put : (old new : List ℕ) (next : ℕ) → IsOther (r .answer) → Put old 0 refusal next new
       → (given : model.State) → Put old 0 (answerTo given input) next new
   unfolding digits digitsIn
   refused-put old new next other p given =

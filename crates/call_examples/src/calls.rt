@@ -36,6 +36,20 @@ fn show_store(store: &[u8]) {
     show::byte(b'\n');
 }
 
+// A case that shows and changes nothing.
+fn show_case(s: State, store: &[u8], case: &[u8], kind: usize) {
+    let first = number_of(field(case, 1));
+    match kind {
+        5 => show_payload(s, store, first),
+        6 => show_store(store),
+        7 => {
+            shown(transfer_start(made_unsound(s, number_of(field(case, 2))), store, 1));
+        }
+        8 => show_packages(s, store, first as usize),
+        _ => show::bytes(b" no such kind of case\n"),
+    }
+}
+
 // A case by its sentence, printed before what it gives.
 pub fn make_call(s: State, store: &mut [u8], case: &[u8]) -> State {
     let sentence = field(case, 0);
@@ -52,24 +66,8 @@ pub fn make_call(s: State, store: &mut [u8], case: &[u8]) -> State {
         2 => shown(transfer_data(s, store, first, number_of(field(case, 2)), field(case, 3))),
         3 => shown(transfer_exit(s, store, first)),
         4 => shown(delete_transfer(s, store, first)),
-        5 => {
-            show_payload(s, store, first);
-            s
-        }
-        6 => {
-            show_store(store);
-            s
-        }
-        7 => {
-            shown(transfer_start(made_unsound(s, number_of(field(case, 2))), store, 1));
-            s
-        }
-        8 => {
-            show_packages(s, store, first as usize);
-            s
-        }
         _ => {
-            show::bytes(b" no such kind of case\n");
+            show_case(s, store, case, kind);
             s
         }
     }

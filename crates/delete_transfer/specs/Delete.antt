@@ -1,10 +1,7 @@
 -- DeleteTransfer on the code's structs.
 use Prim.Native.Nat.{ℕ}
-use mathlib.Core.Bool.{_||_}
-use mathlib.Core.List.{List, [], _∷_}
-use Rattle.base.specs.Refusals.{Refusal, refuse_when_}
-use Rattle.model.specs.State.{PackageState, Store}
-use Rattle.model.specs.Areas.{isBeingProcessed, isProcessed, deleted}
+use Rattle.model.specs.State.{Store}
+use Rattle.model.specs.Areas.{deleted}
 use Rattle.state.specs.declared.state.State.{State}
 use Rattle.state.specs.declared.answer.Answer.the-variants.{Done}
 use Rattle.state.specs.View.{viewPackages}

@@ -6,7 +6,7 @@ use mathlib.Core.List.{List, [], _∷_}
 use mathlib.Core.Option.{Option, none, some}
 use lib.Dec.{leb, ltb}
 use lib.ListN.{length, replicate}
-use Rattle.base.specs.Refusals.{Refusal, refuse_when_, firstRefusal}
+use Rattle.base.specs.Refusals.{refuse_when_, firstRefusal}
 use Rattle.clusters.specs.Table.{Table}
 use Rattle.cluster_list.specs.Read.{readList}
 use Rattle.model.specs.State.{State, state, idle, Store}

@@ -1,5 +1,4 @@
 -- "Who may call what is a constant table of nine rows".
-use Prim.Native.Nat.{ℕ}
 use mathlib.Core.Bool.{Bool, true, false}
 use mathlib.Core.List.{List, [], _∷_}
 use lib.ListN.{getD}

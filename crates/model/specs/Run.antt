@@ -2,7 +2,7 @@
 use mathlib.Core.List.{List, [], _∷_, map}
 use Rattle.model.specs.State.{State, Store}
 use Rattle.model.specs.Calls.{Call, Reply, refused, accepted}
-use Rattle.model.specs.Step.{Outcome, step}
+use Rattle.model.specs.Step.{step}
 
 -- a call and what it was answered
 pub record Made : Type 0 where

@@ -1,9 +1,9 @@
 -- What the manager's state holds, and its store. Numbers and bytes are any ℕ, so what is claimed of states and stores covers more than
 -- those of 32 and 8 bits.
 use Prim.Native.Nat.{ℕ}
-use mathlib.Core.Bool.{Bool, true, false}
-use mathlib.Core.List.{List, [], map}
-use mathlib.Core.Option.{Option, none, some}
+use mathlib.Core.Bool.{Bool}
+use mathlib.Core.List.{List, map}
+use mathlib.Core.Option.{Option}
 use lib.Dec.{eqb}
 use Rattle.checksum.specs.declared.Sums.{Sums}
 use Rattle.clusters.specs.Table.{Table}

@@ -1,7 +1,7 @@
 -- The staged and the running table.
 use Rattle.clusters.specs.Table.{Table}
 use Rattle.actions.specs.Action.{applyAll}
-use Rattle.model.specs.State.{Phase, idle, ready, processing, activating, verifying, activated, rollingBack, rolledBack, cleaningUp, CleanUpOrigin, readyCleansUp, activatedCleansUp, rolledBackCleansUp, Session, State, actions}
+use Rattle.model.specs.State.{Phase, idle, ready, processing, activating, verifying, activated, rollingBack, rolledBack, cleaningUp, readyCleansUp, activatedCleansUp, rolledBackCleansUp, Session, State, actions}
 
 -- "The staged table is the session's beginning table with the listed actions applied"
 unfoldable pub staged : Session → Table

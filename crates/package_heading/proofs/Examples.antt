@@ -11,7 +11,7 @@ use Rattle.text.specs.Version.{version}
 use Rattle.rows.specs.declared.columns.PackageColumns.{PackageColumns}
 use Rattle.actions.specs.declared.action.Change.{Change}
 use Rattle.actions.specs.declared.action.Change.the-variants.{Install, Update, Remove}
-use Rattle.clusters.specs.Cluster.{Cluster, cluster}
+use Rattle.clusters.specs.Cluster.{cluster}
 use Rattle.package_heading.specs.Heading.{Heading, heading, changeOf, firstLine}
 use Rattle.package_heading.specs.Open.{computing}
 

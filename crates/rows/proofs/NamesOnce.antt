@@ -1,6 +1,6 @@
 -- "each once, in any order": in a line with as many fields as there are names, and each name among them, a name stands as often as it is
 -- in the list of names. The four names of a cluster list and the seven of a package are each in theirs once. Assumes nothing.
-use Prim.Native.Nat.{ℕ, zero, suc, _+_, _≤_}
+use Prim.Native.Nat.{ℕ, zero, suc, _≤_}
 use mathlib.Core.Path.{_≡_, refl, sym, subst, _∙_}
 use mathlib.Core.Bool.{Bool, true, cond, _&&_}
 use mathlib.Core.List.{List, [], _∷_}

@@ -1,8 +1,8 @@
 -- The staged and the running table as the model's: of a sound session, whose actions pass 11 to 15 in turn, each action is applied to a
 -- table within its limits, and so it is applied to the list that the table stands for. Assumes nothing.
-use Prim.Native.Nat.{ℕ, _≤_}
+use Prim.Native.Nat.{_≤_}
 use mathlib.Core.Path.{_≡_, refl, sym, ap, _∙_}
-use mathlib.Core.Bool.{Bool, true, false, _&&_}
+use mathlib.Core.Bool.{true}
 use mathlib.Core.List.{List, [], _∷_, _++_, map}
 use lib.ListN.{length, take}
 use Rattle.base.proofs.Tests.{and-left, and-right}

@@ -1,12 +1,9 @@
 -- TransferData on the code's structs.
 use Prim.Native.Nat.{ℕ, _+_, _≤_}
-use mathlib.Core.Bool.{not, _||_}
-use mathlib.Core.List.{List, [], _∷_}
-use lib.Dec.{eqb, ltb}
+use mathlib.Core.List.{List}
 use lib.ListN.{length, take}
-use Rattle.base.specs.Refusals.{Refusal, refuse_when_}
-use Rattle.model.specs.State.{Package, Store}
-use Rattle.model.specs.Areas.{declared, blockPut, isTransferring}
+use Rattle.model.specs.State.{Store}
+use Rattle.model.specs.Areas.{declared, blockPut}
 use Rattle.state.specs.declared.package.Package.{Package as Struct}
 use Rattle.state.specs.declared.transfers.Transfers.{Transfers}
 use Rattle.state.specs.declared.state.State.{State}

@@ -1,13 +1,6 @@
 -- TransferExit on the code's structs.
 use Prim.Native.Nat.{ℕ}
-use mathlib.Core.Bool.{not}
-use mathlib.Core.List.{List, _∷_}
-use lib.Dec.{ltb}
-use Rattle.base.specs.Refusals.{Refusal, refuse_when_}
-use Rattle.manifest.specs.Package.{PackageRead}
-use Rattle.manifest.specs.Refused.{packageRefusals}
-use Rattle.model.specs.State.{Package, Store}
-use Rattle.model.specs.Areas.{isTransferring}
+use Rattle.model.specs.State.{Store}
 use Rattle.state.specs.declared.package.PackageState.the-variants.{Transferred}
 use Rattle.state.specs.declared.state.State.{State}
 use Rattle.state.specs.declared.answer.Answer.the-variants.{Done}

@@ -1,10 +1,6 @@
 -- TransferStart on the code's structs.
 use Prim.Native.Nat.{ℕ}
-use mathlib.Core.List.{List, [], _∷_}
-use lib.Dec.{leb, ltb}
-use Rattle.base.specs.Refusals.{Refusal, refuse_when_}
 use Rattle.model.specs.State.{Store}
-use Rattle.model.specs.Sound.{packagesMost, idMost}
 use Rattle.state.specs.declared.state.State.{State}
 use Rattle.state.specs.declared.answer.Answer.the-variants.{Id}
 use Rattle.state.specs.Exact.{withNewPackage, withTransfers}

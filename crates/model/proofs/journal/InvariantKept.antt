@@ -13,7 +13,7 @@ use Rattle.base.proofs.Tests.{clash}
 use Rattle.manifest.specs.Package.{readPackage}
 use Rattle.model.specs.State.{PackageState, transferring, transferred, beingProcessed, processed, Package, Phase, isProcessing, Entry, Session, Work, State, state, Store}
 use Rattle.model.specs.Calls.{Call, transferData, Answer, done}
-use Rattle.model.specs.Areas.{remaining, inState, withBlock, newPackage, isTransferring, isTransferred, isBeingProcessed, isProcessed, countIn, processingId}
+use Rattle.model.specs.Areas.{inState, withBlock, newPackage, isTransferring, isTransferred, isBeingProcessed, isProcessed, countIn, processingId}
 use Rattle.model.specs.Sound.{sound, receivedSound}
 use Rattle.model.specs.Step.{Outcome, cleanedUp}
 use Rattle.model.specs.Journal.{Journal, workNoted, acceptedNoted, noted}

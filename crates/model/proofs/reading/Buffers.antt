@@ -9,7 +9,6 @@ use lib.Dec.{ltb}
 use lib.ListN.{length, take, drop, length-append, length-drop}
 use lib.Seq.{take-append-seam, drop-append-seam}
 use borrow.Author.Tests.{ltb-true, ltb-false, lt-ltb, le-ltb}
-use Rattle.base.specs.Quoted.{bytes}
 use Rattle.base.specs.Refusals.{firstRefusal}
 use Rattle.base.proofs.Tests.{bool-cases}
 use Rattle.model.specs.State.{State, Store}

@@ -8,7 +8,6 @@ use lib.Dec.{eqb}
 use lib.ListN.{length, take, drop, length-drop, take-append-drop}
 use lib.Seq.{take-all}
 use borrow.Author.Tests.{not-false}
-use Rattle.base.specs.Quoted.{bytes}
 use Rattle.base.specs.Refusals.{firstRefusal, numberOrZero}
 use Rattle.base.proofs.Tests.{cond-cases, clash}
 use Rattle.manifest.specs.Package.{Manifest, consistent}

@@ -25,7 +25,7 @@ use Rattle.model.specs.Permissions.{allowed}
 use Rattle.model.specs.Areas.{free, find, areaOf, isTransferring, isTransferred, isBeingProcessed, isProcessed, processingId, inState, changed}
 use Rattle.model.specs.Tables.{staged}
 use Rattle.model.specs.Sound.{packagesMost, idMost, sound}
-use Rattle.model.specs.Step.{Outcome, outcome, areaRead, manifestOf, ownRefusals, furtherRefusals, refusals, withPackages, workBegun, taken, workOn, endsProcessing, listedWith, sumCompared, worked, cleanedUp, reported, act, settled, step}
+use Rattle.model.specs.Step.{Outcome, outcome, areaRead, manifestOf, ownRefusals, furtherRefusals, withPackages, workBegun, taken, workOn, endsProcessing, listedWith, sumCompared, worked, cleanedUp, reported, act, settled, step}
 use Rattle.model.proofs.soundness.Packages.{found-known, found-is}
 use Rattle.model.proofs.soundness.Accepted.{passed-over, sound-decided}
 use Rattle.model.proofs.soundness.SoundSession.{each-phase, allowedAt}

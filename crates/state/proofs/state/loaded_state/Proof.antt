@@ -6,7 +6,6 @@ use Rattle.state.specs.declared.phase.Phase.the-variants.{Idle}
 use Rattle.state.specs.declared.transfers.Transfers.{Transfers}
 use Rattle.state.specs.declared.session.Session.{Session}
 use Rattle.state.specs.declared.work.Work.{Work}
-use Rattle.state.specs.declared.state.State.{State}
 use Rattle.state.specs.Exact.{state}
 use Rattle.state.proofs.state.loaded_state.Statement.{statement}
 use Rattle.state.proofs.state.loaded_state.Tie as tie

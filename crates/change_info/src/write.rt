@@ -54,7 +54,8 @@ fn put_changes(buffer: &mut [u8], from: usize, session: Session) -> usize
     at
 }
 
-// The changes at the start of the buffer; gives their length.
+// The changes at the start of the buffer; gives their length. `report_changes` compares it with the buffer's before; a sound state meets
+// the limit of the entries.
 pub fn write_changes(buffer: &mut [u8], session: Session) -> usize
     requires { ⌜ (session .count ≤ entriesMost) × (length (changesText session) ≤ length (now buffer)) ⌝ }
     ensures { λ r. ⌜ Put (now (buffer .entry)) 0 (changesText session) r (now (buffer .exit)) ⌝ }

@@ -19,7 +19,7 @@ use state::answer::Answer;
 use state::state::State;
 
 // A number of a report as 32 bits: each is far below their end.
-pub fn small(n: usize) -> u32 {
+fn in_32_bits(n: usize) -> u32 {
     if 4294967295 < n {
         return 4294967295;
     }
@@ -43,8 +43,8 @@ pub fn show_reply(name: &[u8], reply: ReadingReply) -> bool
 {
     match reply {
         ReadingReply::Refused(number) => show_answer(Answer::Refused(number)),
-        ReadingReply::ShortBuffer(needed) => show_number(b"refused 19 ", small(needed)),
-        ReadingReply::Given(n) => show_number(name, small(n)),
+        ReadingReply::ShortBuffer(needed) => show_number(b"refused 19 ", in_32_bits(needed)),
+        ReadingReply::Given(n) => show_number(name, in_32_bits(n)),
     }
 }
 

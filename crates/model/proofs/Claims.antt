@@ -1,7 +1,7 @@
 -- The claims of demand 3 and of document 01's words about the store, each with its words and one statement: from an accepted Load,
 -- over every list of calls, each handed the state and store that the one before left. A list of calls is any list, so what holds
 -- after every list holds after every call. Assumes nothing.
-use mathlib.Core.Path.{_≡_, sym, ap, subst, _∙_}
+use mathlib.Core.Path.{_≡_, refl, sym, ap, subst, _∙_}
 use mathlib.Core.Bool.{true, false}
 use mathlib.Core.List.{List, [], _∷_, _++_, List·Memᴰ}
 use mathlib.Core.Logic.{_↔_, _⊎_}
@@ -22,15 +22,16 @@ use Rattle.model.specs.Step.{Outcome, outcome, refusals, step}
 use Rattle.model.specs.Load.{tableOrEmpty, isBadLoad, loadedState, load}
 use Rattle.model.specs.Run.{Made, Run, run, acceptedOnly, callsOf}
 use Rattle.model.specs.Journal.{Journal, opened, journal}
-use Rattle.model.specs.Reading.{clusterInfo}
+use Rattle.model.specs.Reading.{clusterInfo, payloadCheck, PayloadGiven}
 use Rattle.model.specs.Demand3.{Undone, TableAtReturn, sessionGoesOn, LastSession, mayWriteStore, AgreesWith, Demand3}
 use Rattle.model.proofs.soundness.SoundFacts.{sound-by-length}
 use Rattle.model.proofs.soundness.KeptSound.{step-sound}
 use Rattle.model.proofs.soundness.LoadSound.{load-refused, load-gives-back}
 use Rattle.model.proofs.soundness.RunningWithin.{info-loads}
-use Rattle.model.proofs.transitions.Transitions.{Accepted}
+use Rattle.model.specs.Accepted.{Accepted}
 use Rattle.model.proofs.transitions.Refused as refusing
 use Rattle.model.proofs.transitions.NoOtherRefusal.{accepted-exactly}
+use Rattle.model.proofs.reading.Payload.{given-exactly}
 use Rattle.model.proofs.journal.Lists.{state-last, store-last}
 use Rattle.model.proofs.journal.Demand3 as every
 use Rattle.model.proofs.journal.SessionTable.{last-session}
@@ -52,6 +53,12 @@ refused-by-the-first = refusing.refused-by-the-first
 pub accepted-exactly-so : (s : State) (store : Store) (call : Call) (answer : Answer) (s′ : State) (store′ : Store)
     → sound s store ≡ true → (step s store call ≡ outcome answer s′ store′) ↔ Accepted s store call (outcome answer s′ store′)
 accepted-exactly-so = accepted-exactly
+
+-- "and happens under no other condition", of Payload: on a sound state the call beside it gives 0 exactly when a package has the id, it
+-- is not Transferring and its area reads as a package with exactly its payload
+pub payload-given-exactly-so : (s : State) (store : Store) (id : ℕ) → sound s store ≡ true
+    → (payloadCheck s store id ≡ 0) ↔ PayloadGiven s store id
+payload-given-exactly-so = given-exactly
 
 -- "BadLoad: Load with ill-formed list, id 0 or too long a store.", and Load is refused by no other number
 pub load-refused-by-20 : (given : State) (list : List ℕ) (first : ℕ) (lent : Store) (number : ℕ)
@@ -101,8 +108,12 @@ module _ (given : State) (list : List ℕ) (first : ℕ) (lent : Store)
   demand3 : (calls : List Call) → Demand3 (opened (tableOrEmpty (readList list))) (loaded .state) (loaded .store) calls
   demand3 calls = every.demand3-from _ _ _ (load-invariant given list first lent is-accepted) calls
 
+  -- after the calls of a list that goes on with others: "After every call" of demand 3 of the longer list
+  agrees-within : (calls rest : List Call) → AgreesWith (journalOf calls) (after calls .state) (after calls .store)
+  agrees-within calls rest = demand3 (calls ++ rest) .afterEach calls rest refl
+
   agrees : (calls : List Call) → AgreesWith (journalOf calls) (after calls .state) (after calls .store)
-  agrees calls = demand3 calls .afterwards
+  agrees calls = agrees-within calls []
 
   -- ---- the running table
 
@@ -128,17 +139,23 @@ module _ (given : State) (list : List ℕ) (first : ℕ) (lent : Store)
   processing-reads-a-package calls =
       every.processing-reads _ _ _ (every.list-keeps _ _ _ calls (load-invariant given list first lent is-accepted))
 
+  -- the same of a session of a list that goes on with others
+  began-within : (calls session rest : List Call) → isIdle (after calls .state .phase) ≡ true
+      → sessionGoesOn (after calls .state) (after calls .store) session ≡ true
+      → journalOf (calls ++ session) .B ≡ running (after calls .state)
+  began-within calls session rest = demand3 ((calls ++ session) ++ rest) .sessionBegan calls session rest refl
+
   -- "the table when that session began": B of a session is the running table of the Idle state that it began from
   pub B-is-the-table-when-the-session-began : (calls session : List Call) → isIdle (after calls .state .phase) ≡ true
       → sessionGoesOn (after calls .state) (after calls .store) session ≡ true
       → journalOf (calls ++ session) .B ≡ running (after calls .state)
-  B-is-the-table-when-the-session-began = every.session-began _ _ _ (load-invariant given list first lent is-accepted)
+  B-is-the-table-when-the-session-began calls session = began-within calls session []
 
   -- every list of calls ends in a session, so what is said of sessions below is said after every list and at each return to Idle
   pub every-list-ends-in-a-session : (calls : List Call) → LastSession (loaded .state) (loaded .store) calls
   unfolding opened
   every-list-ends-in-a-session calls =
-      last-session (loaded .state) (loaded .store) calls (sym (load-invariant given list first lent is-accepted .tables .at-idle))
+      last-session (loaded .state) (loaded .store) calls (sym (load-invariant given list first lent is-accepted .tables .atIdle))
 
   -- the call that returns to Idle, after a list of calls that does not end in Idle
   returning : (calls : List Call) (call : Call) → isIdle (after calls .state .phase) ≡ false

@@ -1,6 +1,5 @@
 -- The invariant that ties state and store to the journal, the induction over a list of calls, and what follows.
 pub mod ProcessingId
-pub mod Invariant
 pub mod InvariantTables
 pub mod InvariantKept
 pub mod Opened

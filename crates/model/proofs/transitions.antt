@@ -1,5 +1,6 @@
 -- The accepted transitions as one type, and refused calls.
-pub mod Transitions
+pub mod Passing
+pub mod MovesElsewhere
 pub mod AcceptingPackages
 pub mod Accepting
 pub mod Refused

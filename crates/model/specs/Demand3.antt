@@ -92,8 +92,7 @@ pub record AgreesWith (j : Journal) (s : State) (store : Store) : Type 0 where
 
 -- what holds of a list of calls, made from a state and store with a journal
 pub record Demand3 (j : Journal) (s : State) (store : Store) (calls : List Call) : Type 0 where
-  pub afterwards : AgreesWith (journal j (run s store calls .made)) (run s store calls .state) (run s store calls .store)
-  -- "After every call": the same holds after the first calls of the list, however many
+  -- "After every call": after the first calls of the list, however many, and so after all of them
   pub afterEach : (before rest : List Call) → before ++ rest ≡ calls
       → AgreesWith (journal j (run s store before .made)) (run s store before .state) (run s store before .store)
   -- "the table when that session began": where `before` ends in Idle and no call of `session` does, B is the running table after

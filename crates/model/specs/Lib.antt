@@ -9,4 +9,6 @@ pub mod Load
 pub mod Run
 pub mod Journal
 pub mod Reading
+pub mod Accepted
+pub mod Invariant
 pub mod Demand3

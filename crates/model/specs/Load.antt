@@ -12,7 +12,7 @@ use Rattle.cluster_list.specs.Read.{readList}
 use Rattle.model.specs.State.{State, state, idle, Store}
 use Rattle.model.specs.Calls.{done}
 use Rattle.model.specs.Sound.{storeMost, idMost}
-use Rattle.model.specs.Step.{Outcome, outcome, settled}
+use Rattle.model.specs.Step.{Outcome, outcome, unlessRefused}
 
 -- no table was read: the list is ill-formed
 abbrev pub isNone : Option Table → Bool
@@ -36,6 +36,6 @@ loadedState table first =
 -- "It fills the store with 0 and gives the state Idle."; refused by 20 alone, it gives state and store back
 unfoldable pub load : State → List ℕ → ℕ → Store → Outcome
 load s list first store =
-    settled s store
+    unlessRefused s store
     (firstRefusal ((refuse 20 when isBadLoad list first store) ∷ []))
     (outcome done (loadedState (tableOrEmpty (readList list)) first) (replicate (length store) 0))

@@ -1,6 +1,7 @@
 -- "Reading calls": what they answer and what they leave in a lent buffer. None changes state or store.
 use Prim.Native.Nat.{ℕ, _*_, _/_}
-use mathlib.Core.Bool.{cond}
+use mathlib.Core.Path.{_≡_}
+use mathlib.Core.Bool.{false, cond}
 use mathlib.Core.List.{List, [], _∷_, _++_, map}
 use mathlib.Core.Option.{Option, none, some}
 use lib.Dec.{eqb, ltb}
@@ -11,9 +12,10 @@ use Rattle.text.specs.Digits.{digits}
 use Rattle.rows.specs.Line.{lineText}
 use Rattle.actions.specs.Action.{Action, install, update, remove, actionPart}
 use Rattle.cluster_list.specs.Write.{writeList}
+use Rattle.manifest.specs.Package.{Manifest, consistent, readPackage}
 use Rattle.manifest.specs.Refused.{packageRefusals}
 use Rattle.model.specs.State.{packageStateNumber, Package, Work, State, Store, actions}
-use Rattle.model.specs.Areas.{areaOf, isTransferring}
+use Rattle.model.specs.Areas.{find, areaOf, isTransferring}
 use Rattle.model.specs.Tables.{running}
 use Rattle.model.specs.Sound.{badState}
 use Rattle.model.specs.Step.{unknown, areaRead, named, manifestOf}
@@ -152,6 +154,15 @@ payload s store id = emptyWhenRefused (payloadReply s store id) (payloadPart s s
 -- "a call beside it with the same checks gives the refusal number, or 0"
 unfoldable pub payloadCheck : State → Store → ℕ → ℕ
 payloadCheck s store id = replyNumber (payloadReply s store id)
+
+-- what Payload demands and nothing else: 4, a package has the id; 5, it is not Transferring; 9 and 10, its area reads as a package with
+-- exactly its payload
+pub record PayloadGiven (s : State) (store : Store) (id : ℕ) : Type 0 where
+  pub named : Package
+  pub found : find id (s .transfers .packages) ≡ some named
+  pub received : isTransferring (named .state) ≡ false
+  pub manifest : Manifest
+  pub read : readPackage (areaOf id (s .transfers .packages) store) ≡ consistent manifest
 
 -- ---- Progress
 

@@ -136,8 +136,8 @@ abbrev pub withPackages : List Package → Transfers → Transfers
 withPackages ps t = record { packages = ps; next = t .next }
 
 -- "with the running sums and the bytes done at 0"
-abbrev pub workBegun : Manifest → Work
-workBegun m =
+abbrev pub workAtStart : Manifest → Work
+workAtStart m =
     record { action = m .action; start = m .start; count = m .count; sum = m .sum; runningSums = startSums; done = 0; cancelNoted = false }
 
 -- "takes the next n payload bytes, or what is left"
@@ -244,34 +244,34 @@ module _ (s : State) (store : Store) where
       (deleted (λ p. not (isProcessed (p .state))) (s .transfers .packages) store)
 
   -- Report in each manager's state. In those that do not allow it, it is refused before it counts
-  unfoldable pub reported : Phase → Bool → Outcome
+  unfoldable pub reportOutcome : Phase → Bool → Outcome
   -- "Activating: bad gives Ready, PreActivationFailed. Good gives Ready, MissingDependencies, if some need of some cluster isn't met
   -- in the staged table; else Verifying."
-  reported activating good =
+  reportOutcome activating good =
       movesTo (activatingPhase good (needsMet (staged (s .session)))) (activatingAnswer good (needsMet (staged (s .session))))
   -- "Verifying: good gives Activated, bad stays, VerificationFailed."
-  reported verifying true = movesTo activated done
-  reported verifying false = movesTo verifying verificationFailed
+  reportOutcome verifying true = movesTo activated done
+  reportOutcome verifying false = movesTo verifying verificationFailed
   -- "RollingBack: good gives RolledBack; bad the state it came from, NotAbleToRollback."
-  reported (rollingBack origin) true = movesTo rolledBack done
-  reported (rollingBack origin) false = movesTo (rollbackPhase origin) notAbleToRollback
+  reportOutcome (rollingBack origin) true = movesTo rolledBack done
+  reportOutcome (rollingBack origin) false = movesTo (rollbackPhase origin) notAbleToRollback
   -- "CleaningUp: good gives Idle and deletes all Processed packages; bad after Revert gives Ready, NotAbleToRevert": after Revert the
   -- beginning table stays
-  reported (cleaningUp readyCleansUp) true = cleanedUp (s .session .beginning)
-  reported (cleaningUp readyCleansUp) false = movesTo ready notAbleToRevert
+  reportOutcome (cleaningUp readyCleansUp) true = cleanedUp (s .session .beginning)
+  reportOutcome (cleaningUp readyCleansUp) false = movesTo ready notAbleToRevert
   -- "and after Finish stays, CleaningFailed"; the staged table runs in "CleaningUp after Finish from Activated; after that CleaningUp
   -- ends it begins the next session"
-  reported (cleaningUp activatedCleansUp) true = cleanedUp (staged (s .session))
-  reported (cleaningUp activatedCleansUp) false = movesTo (cleaningUp activatedCleansUp) cleaningFailed
+  reportOutcome (cleaningUp activatedCleansUp) true = cleanedUp (staged (s .session))
+  reportOutcome (cleaningUp activatedCleansUp) false = movesTo (cleaningUp activatedCleansUp) cleaningFailed
   -- after Finish from RolledBack the beginning table stays
-  reported (cleaningUp rolledBackCleansUp) true = cleanedUp (s .session .beginning)
-  reported (cleaningUp rolledBackCleansUp) false = movesTo (cleaningUp rolledBackCleansUp) cleaningFailed
+  reportOutcome (cleaningUp rolledBackCleansUp) true = cleanedUp (s .session .beginning)
+  reportOutcome (cleaningUp rolledBackCleansUp) false = movesTo (cleaningUp rolledBackCleansUp) cleaningFailed
   -- "Report in Activating, Verifying, RollingBack and CleaningUp": in these five it is refused by 3
-  reported idle good = movesTo idle done
-  reported ready good = movesTo ready done
-  reported processing good = movesTo processing done
-  reported activated good = movesTo activated done
-  reported rolledBack good = movesTo rolledBack done
+  reportOutcome idle good = movesTo idle done
+  reportOutcome ready good = movesTo ready done
+  reportOutcome processing good = movesTo processing done
+  reportOutcome activated good = movesTo activated done
+  reportOutcome rolledBack good = movesTo rolledBack done
 
   -- the answer, state and store of an accepted call, in the order of document 01's bullets
   unfoldable pub act : Call → Outcome
@@ -303,7 +303,7 @@ module _ (s : State) (store : Store) where
       processing
       (withPackages (changed id (inState beingProcessed) (s .transfers .packages)) (s .transfers))
       (s .session)
-      (some (workBegun (manifestOf (areaRead s store id)))))
+      (some (workAtStart (manifestOf (areaRead s store id)))))
       store
   -- "Work(n) .. takes the next n payload bytes, or what is left, into the sum." In Processing there are kept values
   act (work n) = elim (s .work) [ none ↦ movesTo (s .phase) done | some w ↦ worked w n ]
@@ -322,15 +322,15 @@ module _ (s : State) (store : Store) where
   -- "Finish: Activated or RolledBack to CleaningUp.", and keeps which
   act finish = movesTo (cleaningUp (cond (eqb (phaseNumber (s .phase)) 5) activatedCleansUp rolledBackCleansUp)) done
   -- "Report(good or bad), from the machine."
-  act (report good) = reported (s .phase) good
+  act (report good) = reportOutcome (s .phase) good
 
 -- a refused call gives state and store back as they were
-abbrev pub settled : State → Store → Option ℕ → Outcome → Outcome
-settled s store (some number) o = record { reply = refused number; state = s; store = store }
-settled s store none o = o
+abbrev pub unlessRefused : State → Store → Option ℕ → Outcome → Outcome
+unlessRefused s store (some number) o = record { reply = refused number; state = s; store = store }
+unlessRefused s store none o = o
 
 -- one call
 unfoldable pub step : State → Store → Call → Outcome
 step s store call =
     let accepts = act s store call in
-    settled s store (firstRefusal (refusals s store call)) accepts
+    unlessRefused s store (firstRefusal (refusals s store call)) accepts

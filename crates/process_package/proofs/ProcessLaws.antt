@@ -47,14 +47,14 @@ use Rattle.process_package.specs.Process.{workBegun, checkedBy, checked,
 
 -- the part number of an action that was read is at least 1, so the values are not the cleared ones
 view-work-begun : (bytes : List ℕ) (m : Manifest) → readPackage bytes ≡ consistent m
-    → viewWork (workBegun (packageRead (consistent m))) ≡ some (step.workBegun m)
+    → viewWork (workBegun (packageRead (consistent m))) ≡ some (step.workAtStart m)
 unfolding packageRead
 view-work-begun bytes m e =
     let w = workBegun (packageRead (consistent m)) in
     let same = readPackage-viewed bytes m e in
     bool-cases (isClearedWork w)
     (λ h. clash (rw same (readPackage-within bytes m e .0)) (cleared-not-within w h))
-    λ h. rw h (ap (λ (a : Action). some (step.workBegun (record { action = a; start = m .start; count = m .count; sum = m .sum }))) same)
+    λ h. rw h (ap (λ (a : Action). some (step.workAtStart (record { action = a; start = m .start; count = m .count; sum = m .sum }))) same)
 
 -- the number that the checks give
 checked-number : (read : PackageRead) (first : Option ℕ) → checkedBy read first .number ≡ numberOrZero first

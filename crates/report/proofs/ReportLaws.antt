@@ -113,8 +113,8 @@ module _ (s : State) (store : Store) where
   -- a case for each row
   view-row : sound (viewState s) store ≡ true → length (s .session .beginning .clusters) ≡ clustersMost
       → (phase : Phase) (good : Bool) → allowed (viewPhase phase) (report good) ≡ true
-      → viewOutcome (reported s store phase good) ≡ step.reported (viewState s) store (viewPhase phase) good
-  unfolding reported step.reported allowed tables.runningIn
+      → viewOutcome (reported s store phase good) ≡ step.reportOutcome (viewState s) store (viewPhase phase) good
+  unfolding reported step.reportOutcome allowed tables.runningIn
   view-row ok long Activating good h =
       let few = session-fits s store ok in
       let fine = session-sound s store ok in

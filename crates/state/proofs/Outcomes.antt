@@ -22,7 +22,7 @@ use Rattle.state.specs.Exact.{withTransfers}
 use Rattle.state.specs.Outcome.{Outcome, outcome, answered, refusedBy, viewOutcome, SoundIfAccepted, settled, called, calledOnSound}
 
 pub view-settled : (s : State) (store : Store) (refusal : Option ℕ) (o : Outcome) (o′ : model.Outcome)
-    → (refusal ≡ none → viewOutcome o ≡ o′) → viewOutcome (settled s store refusal o) ≡ model.settled (viewState s) store refusal o′
+    → (refusal ≡ none → viewOutcome o ≡ o′) → viewOutcome (settled s store refusal o) ≡ model.unlessRefused (viewState s) store refusal o′
 unfolding settled
 view-settled s store none o o′ same = same refl
 view-settled s store (some number) o o′ same = refl
@@ -60,7 +60,7 @@ unfolding model.step SoundIfAccepted
 step-gives-sound s store call o same answer e = go (firstRefusal (model.refusals (viewState s) store call)) refl same
   where
     go : (refusal : Option ℕ) → firstRefusal (model.refusals (viewState s) store call) ≡ refusal
-        → viewOutcome o ≡ model.settled (viewState s) store refusal (model.act (viewState s) store call)
+        → viewOutcome o ≡ model.unlessRefused (viewState s) store refusal (model.act (viewState s) store call)
         → sound (viewState (o .answered .state)) (o .store) ≡ true
     go (some number) is same = not-accepted (sym (ap (λ (given : model.Outcome). given .reply) same) ∙ e)
     go none is same =

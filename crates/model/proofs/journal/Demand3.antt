@@ -25,7 +25,7 @@ use Rattle.model.proofs.transitions.Refused.{step-cases, without-refuse
 use Rattle.model.proofs.journal.Lists.{always}
 use Rattle.model.proofs.store.AreaLaws.{declared-plus-free}
 use Rattle.model.proofs.store.Contents.{area-holds, end-holds, received-joined}
-use Rattle.model.proofs.journal.Invariant.{manifestKept, KeptFrom, Invariant}
+use Rattle.model.specs.Invariant.{manifestKept, KeptFrom, Invariant}
 use Rattle.model.proofs.journal.InvariantKept.{journalAfter, keeps}
 use Rattle.model.proofs.journal.NeverUnsound.{never-unsound}
 use Rattle.model.proofs.store.StoreStays.{store-stays}
@@ -39,7 +39,7 @@ pub step-keeps : (j : Journal) (s : State) (store : Store) (call : Call) → Inv
     → Invariant (journalAfter call (step s store call) j) (step s store call .state) (step s store call .store)
 step-keeps j s store call i =
     step-cases (λ o. Invariant (journalAfter call o j) (o .state) (o .store)) s store call (λ number r. unfold noted in i)
-    λ a. keeps j (sound-says s store (i .is-sound)) (kept-sound s store call a) (accepted-is s store call a) i
+    λ a. keeps j (sound-says s store (i .isSound)) (kept-sound s store call a) (accepted-is s store call a) i
 
 -- so does a list of calls
 pub list-keeps : (j : Journal) (s : State) (store : Store) (calls : List Call) → Invariant j s store
@@ -53,7 +53,7 @@ step-returns : (j : Journal) (s : State) (store : Store) (call : Call) → Invar
 step-returns j s store call i busy =
     step-cases (λ o. isIdle (o .state .phase) ≡ true → TableAtReturn j call (running (o .state))) s store call
     (λ number r e. clash e busy)
-    λ a e. return-is j (sound-says s store (i .is-sound)) (accepted-is s store call a) i busy e
+    λ a e. return-is j (sound-says s store (i .isSound)) (accepted-is s store call a) i busy e
 
 -- ---- a list of calls
 
@@ -65,17 +65,17 @@ agrees j s store i =
     record {
       runningIsR = sym (i .tables .table);
       beginningIsB = sym (i .tables .beginning);
-      idleAgrees = sym (i .tables .at-idle);
+      idleAgrees = sym (i .tables .atIdle);
       listedIsA = sym (i .tables .listing);
       atReturn = λ call. step-returns j s store call i;
       noThird = no-third j s (i .tables);
-      staysSound = i .is-sound;
-      notRefusedBy1 = λ call. never-unsound s store call (i .is-sound);
+      staysSound = i .isSound;
+      notRefusedBy1 = λ call. never-unsound s store call (i .isSound);
       storeStays = λ call. store-stays s store call;
       areaHolds = λ id p. area-holds (j .blocks) ps store (i .areas) id p;
       receivedIsJoined = λ id p e. received-joined (j .blocks) id ps p e (i .areas .filled);
       endHolds = end-holds (j .blocks) ps store (i .areas);
-      declaredPlusFree = declared-plus-free s store (i .is-sound);
+      declaredPlusFree = declared-plus-free s store (i .isSound);
     }
 
 -- B of a session is the running table of the Idle state that it began from
@@ -90,7 +90,6 @@ session-began j s store i before session e h =
 pub demand3-from : (j : Journal) (s : State) (store : Store) → Invariant j s store → (calls : List Call) → Demand3 j s store calls
 demand3-from j s store i calls =
     record {
-      afterwards = agrees _ _ _ (list-keeps j s store calls i);
       afterEach = λ before rest e. agrees _ _ _ (list-keeps j s store before i);
       sessionBegan = λ before session rest e. session-began j s store i before session;
       withoutRefused = without-refused s store calls;
@@ -100,7 +99,7 @@ demand3-from j s store i calls =
 pub processing-reads : (j : Journal) (s : State) (store : Store) → Invariant j s store → isProcessing (s .phase) ≡ true
     → (m : Manifest) × (readPackage (j .blocks (j .lastProcess)) ≡ consistent m)
 unfolding keptSound
-processing-reads j s store i e = go (s .work) (sound-says s store (i .is-sound) .keptValues) (i .keptValues e)
+processing-reads j s store i e = go (s .work) (sound-says s store (i .isSound) .keptValues) (i .keptValues e)
   where
     go : (remaining : Option Work) → keptSound (s .phase) (s .session) (s .transfers .packages) remaining ≡ true
         → KeptFrom j (s .transfers .packages) remaining → (m : Manifest) × (readPackage (j .blocks (j .lastProcess)) ≡ consistent m)
@@ -114,7 +113,7 @@ unfolding run
 never-refused-by-1 [] j s store i m at e = List·Memᴰ·not-nil at
 never-refused-by-1 (call ∷ calls) j s store i m at e =
     elim (List·Memᴰ·cases-cons at) [
-      | inl same ↦ never-unsound s store call (i .is-sound) (ap (λ (x : Made). x .reply) (sym same) ∙ e)
+      | inl same ↦ never-unsound s store call (i .isSound) (ap (λ (x : Made). x .reply) (sym same) ∙ e)
       | inr later ↦ never-refused-by-1 calls _ _ _ (step-keeps j s store call i) m later e
     ]
 

@@ -17,14 +17,15 @@ use Rattle.model.specs.Areas.{inState, withBlock, newPackage, isTransfer
 use Rattle.model.specs.Sound.{sound, receivedSound}
 use Rattle.model.specs.Step.{Outcome, cleanedUp}
 use Rattle.model.specs.Journal.{Journal, workNoted, acceptedNoted, noted}
-use Rattle.model.proofs.transitions.Transitions.{AtRest, in-idle, in-ready, Accepted, starts, puts-block, exits, deletes, processes, works-on, leaves, is-processed, cancels, moves, ends, moves-elsewhere}
+use Rattle.model.specs.Accepted.{AtRest, inIdle, inReady, Accepted, starts, putsBlock, exits, deletes, processes, worksOn, leaves, completes, cancels, moves, ends}
+use Rattle.model.proofs.transitions.MovesElsewhere.{moves-elsewhere}
 use Rattle.model.proofs.soundness.SoundFacts.{Sound}
 use Rattle.model.proofs.soundness.Packages.{found-fine, found-id}
 use Rattle.model.proofs.soundness.Counts.{keeps-others}
 use Rattle.model.proofs.journal.ProcessingId.{id-started, id-kept, id-changed, id-begun, id-other}
-use Rattle.model.proofs.store.Contents.{Holds, holds-started, holds-state, holds-deleted, whole-area}
+use Rattle.model.proofs.store.Contents.{holds-started, holds-state, holds-deleted, whole-area}
 use Rattle.model.proofs.store.ContentsBlock.{joined-other, holds-put}
-use Rattle.model.proofs.journal.Invariant.{KeptFrom, Invariant}
+use Rattle.model.specs.Invariant.{Holds, KeptFrom, Invariant}
 use Rattle.model.proofs.journal.InvariantTables.{Told, moves-told, ends-told, begins-told, leaves-told, processed-told}
 
 -- ---- what the states of packages and of the manager say
@@ -49,8 +50,8 @@ whole p e h =
     eqb-true _ _ (subst (λ (b : Bool). cond b (leb (p .received) (p .size)) (eqb (p .received) (p .size)) ≡ true) n h)
 
 none-processing : (phase : Phase) (n : ℕ) → AtRest phase → n ≡ cond (isProcessing phase) 1 0 → n ≡ 0
-none-processing phase n in-idle e = e
-none-processing phase n in-ready e = e
+none-processing phase n inIdle e = e
+none-processing phase n inReady e = e
 
 one-processing : (b : Bool) (n : ℕ) → b ≡ true → n ≡ cond b 1 0 → 1 ≤ n
 one-processing true n h e = omega arith
@@ -92,26 +93,26 @@ unfolding noted acceptedNoted workNoted cleanedUp
 keeps j {s} {store} ok then (starts size h7 h16 h17 h18) i =
     let ps = s .transfers .packages in
     record {
-      is-sound = then;
+      isSound = then;
       tables = i .tables;
       areas = holds-started (j .blocks) (s .transfers .next) size ps store (i .fresh (s .transfers .next) (omega arith)) h17 (i .areas);
       fresh = λ id l. i .fresh id (omega arith);
       keptValues = λ e. kept-as j ps _ (s .work) (id-started ps (newPackage (s .transfers .next) size) refl) (i .keptValues e);
     }
-keeps j {s} {store} ok then (puts-block id counter block p e h5 h6 h7 h) i =
+keeps j {s} {store} ok then (putsBlock id counter block p e h5 h6 h7 h) i =
     let ps = s .transfers .packages in
     let low : p .id < s .transfers .next = found-fine 0 (s .transfers .next) id ps p (ok .rise) e .below in
     let same : p .id ≡ id = found-id id ps p e in
     let busy = not-being (p .state) h5 in
     record {
-      is-sound = then;
+      isSound = then;
       tables = record {
         beginning = i .tables .beginning;
         listing = i .tables .listing;
         table = i .tables .table;
-        at-idle = i .tables .at-idle;
+        atIdle = i .tables .atIdle;
         direction = i .tables .direction;
-        rolled-back = i .tables .rolled-back;
+        rollbackCompleted = i .tables .rollbackCompleted;
       };
       areas = holds-put (j .blocks) id block 0 (s .transfers .next) ps p store (ok .rise) e h (i .areas);
       fresh = λ other l. joined-other (j .blocks) id block other (ne-eqb id other λ q. omega arith) ∙ i .fresh other l;
@@ -122,7 +123,7 @@ keeps j {s} {store} ok then (puts-block id counter block p e h5 h6 h7 h) i =
 keeps j {s} {store} ok then (exits id p m e h5 h8 h9) i =
     let ps = s .transfers .packages in
     record {
-      is-sound = then;
+      isSound = then;
       tables = i .tables;
       areas = holds-state (j .blocks) id transferred ps store (i .areas);
       fresh = i .fresh;
@@ -132,7 +133,7 @@ keeps j {s} {store} ok then (exits id p m e h5 h8 h9) i =
 keeps j {s} {store} ok then (deletes id p e h5 h5′) i =
     let ps = s .transfers .packages in
     record {
-      is-sound = then;
+      isSound = then;
       tables = i .tables;
       areas = holds-deleted (j .blocks) (λ q. not (eqb id (q .id))) ps store (i .areas);
       fresh = i .fresh;
@@ -147,7 +148,7 @@ keeps j {s} {store} ok then (processes id p m rest e h5 h9 h) i =
     let full : p .received ≡ p .size = whole p h5 (found-fine 0 (s .transfers .next) id ps p (ok .rise) e .received) in
     let none-yet : countIn isBeingProcessed ps ≡ 0 = none-processing (s .phase) _ rest (ok .processing) in
     record {
-      is-sound = then;
+      isSound = then;
       tables = t .tables;
       areas = holds-state (j .blocks) id beingProcessed ps store (i .areas);
       fresh = i .fresh;
@@ -156,9 +157,9 @@ keeps j {s} {store} ok then (processes id p m rest e h5 h9 h) i =
         read = ap readPackage (sym (whole-area (j .blocks) ps store (i .areas) id p e full)) ∙ h9;
       };
     }
-keeps j ok then (works-on w n c l) i =
+keeps j ok then (worksOn w n c l) i =
     record {
-      is-sound = then;
+      isSound = then;
       tables = i .tables;
       areas = i .areas;
       fresh = i .fresh;
@@ -167,17 +168,17 @@ keeps j ok then (works-on w n c l) i =
 keeps j ok then (leaves {t} {session} {store} w n {answer} f) i =
     let told = leaves-told j session f (i .tables) in
     record {
-      is-sound = then;
+      isSound = then;
       tables = told .tables;
       areas = areas-told told (holds-state (j .blocks) (processingId (t .packages)) transferred (t .packages) store (i .areas));
       fresh = fresh-told told (i .fresh);
       keptValues = λ z. tt;
     }
-keeps j ok then (is-processed {t} {session} {store} w n c l e) i =
+keeps j ok then (completes {t} {session} {store} w n c l e) i =
     let entry : Entry = record { id = processingId (t .packages); action = w .action } in
     let told = processed-told j session (t .packages) w n entry refl (i .keptValues refl) (i .tables) in
     record {
-      is-sound = then;
+      isSound = then;
       tables = told .tables;
       areas = areas-told told (holds-state (j .blocks) (processingId (t .packages)) processed (t .packages) store (i .areas));
       fresh = fresh-told told (i .fresh);
@@ -185,7 +186,7 @@ keeps j ok then (is-processed {t} {session} {store} w n c l e) i =
     }
 keeps j ok then (cancels w id e) i =
     record {
-      is-sound = then;
+      isSound = then;
       tables = i .tables;
       areas = i .areas;
       fresh = i .fresh;
@@ -194,7 +195,7 @@ keeps j ok then (cancels w id e) i =
 keeps j ok then (moves {session = session} g) i =
     let told = moves-told j session g (i .tables) in
     record {
-      is-sound = then;
+      isSound = then;
       tables = told .tables;
       areas = areas-told told (i .areas);
       fresh = fresh-told told (i .fresh);
@@ -203,7 +204,7 @@ keeps j ok then (moves {session = session} g) i =
 keeps j ok then (ends {t = t} {session = session} {store = store} g) i =
     let told = ends-told j session g (i .tables) in
     record {
-      is-sound = then;
+      isSound = then;
       tables = told .tables;
       areas = areas-told told (holds-deleted (j .blocks) (λ q. not (isProcessed (q .state))) (t .packages) store (i .areas));
       fresh = fresh-told told (i .fresh);

@@ -11,8 +11,8 @@ use Rattle.model.specs.Calls.{Call, process, work, report, Answer, proce
 use Rattle.model.specs.Tables.{staged, runningIn}
 use Rattle.model.specs.Step.{manifestOf, phaseAfter}
 use Rattle.model.specs.Journal.{Direction, toActivate, toRevert, toRollback, toFinish, Journal, actionIn, returned, packageProcessed, packageLeft, reportDone, workNoted, reportNoted, acceptedNoted}
-use Rattle.model.proofs.transitions.Transitions.{AtRest, in-idle, in-ready, Moves, reverts, activates, rolls-back-verifying, rolls-back-activated, finishes-activated, finishes-rolled-back, activation-fails, needs-missing, is-activated, is-verified, verification-fails, is-rolled-back, rollback-fails, revert-fails, cleaning-activated-fails, cleaning-rolled-back-fails, Ends, after-revert, after-finish, after-rollback, Leaves, by-cancel, by-sum}
-use Rattle.model.proofs.journal.Invariant.{DirectionIn, isRolledBack, TablesAgree, ReadFrom}
+use Rattle.model.specs.Accepted.{AtRest, inIdle, inReady, Moves, reverts, activates, rollsBackVerifying, rollsBackActivated, finishesActivated, finishesRolledBack, activationFails, needsMissing, activationSucceeds, verificationSucceeds, verificationFails, rollbackSucceeds, rollbackFails, revertFails, cleaningActivatedFails, cleaningRolledBackFails, Ends, afterRevert, afterFinish, afterRollback, Leaves, byCancel, bySum}
+use Rattle.model.specs.Invariant.{DirectionIn, isRolledBack, TablesAgree, ReadFrom}
 
 -- the tables' part of the invariant for the journal after a call, which has the same blocks
 pub record Told (j j′ : Journal) (phase : Phase) (session : Session) : Type 0 where
@@ -45,9 +45,9 @@ module _ (j : Journal) (session : Session) where
           beginning = b ∙ i .beginning;
           listing = a ∙ i .listing;
           table = r;
-          at-idle = rests ∙ i .at-idle ∙ same;
+          atIdle = rests ∙ i .atIdle ∙ same;
           direction = d;
-          rolled-back = c;
+          rollbackCompleted = c;
         };
         blocks = bs;
       }
@@ -56,28 +56,28 @@ module _ (j : Journal) (session : Session) where
       → TablesAgree j phase session
       → Told j (acceptedNoted call answer j) phase′ session
   unfolding acceptedNoted reportNoted reportDone runningIn
-  moves-told reverts i = stays _ _ _ i refl refl refl refl refl (i .table) refl (i .rolled-back)
-  moves-told activates i = stays _ _ _ i refl refl refl refl refl (i .table) refl (i .rolled-back)
-  moves-told rolls-back-verifying i = stays _ _ _ i refl refl refl refl refl (i .table) refl (i .rolled-back)
-  moves-told rolls-back-activated i = stays _ _ _ i refl refl refl refl refl (i .table) refl (i .rolled-back)
-  moves-told finishes-activated i = stays _ _ _ i refl refl refl refl refl (i .table) refl (i .rolled-back)
-  moves-told finishes-rolled-back i = stays _ _ _ i refl refl refl refl refl (i .table) refl (i .rolled-back)
-  moves-told activation-fails i = stays _ _ _ i refl refl refl refl refl (i .table) tt (i .rolled-back)
-  moves-told (needs-missing e) i = stays _ _ _ i refl refl refl refl refl (i .table) tt (i .rolled-back)
-  moves-told (is-activated e) i =
+  moves-told reverts i = stays _ _ _ i refl refl refl refl refl (i .table) refl (i .rollbackCompleted)
+  moves-told activates i = stays _ _ _ i refl refl refl refl refl (i .table) refl (i .rollbackCompleted)
+  moves-told rollsBackVerifying i = stays _ _ _ i refl refl refl refl refl (i .table) refl (i .rollbackCompleted)
+  moves-told rollsBackActivated i = stays _ _ _ i refl refl refl refl refl (i .table) refl (i .rollbackCompleted)
+  moves-told finishesActivated i = stays _ _ _ i refl refl refl refl refl (i .table) refl (i .rollbackCompleted)
+  moves-told finishesRolledBack i = stays _ _ _ i refl refl refl refl refl (i .table) refl (i .rollbackCompleted)
+  moves-told activationFails i = stays _ _ _ i refl refl refl refl refl (i .table) tt (i .rollbackCompleted)
+  moves-told (needsMissing e) i = stays _ _ _ i refl refl refl refl refl (i .table) tt (i .rollbackCompleted)
+  moves-told (activationSucceeds e) i =
       by-direction j _ session toActivate (i .direction)
-      (stays _ _ _ i refl refl refl refl refl (staged-is j _ session i) (i .direction) (i .rolled-back))
-  moves-told is-verified i =
+      (stays _ _ _ i refl refl refl refl refl (staged-is j _ session i) (i .direction) (i .rollbackCompleted))
+  moves-told verificationSucceeds i =
       by-direction j _ session toActivate (i .direction)
-      (stays _ _ _ i refl refl refl refl refl (staged-is j _ session i) (i .direction) (i .rolled-back))
-  moves-told verification-fails i = record { tables = i; blocks = refl }
-  moves-told (is-rolled-back origin) i =
+      (stays _ _ _ i refl refl refl refl refl (staged-is j _ session i) (i .direction) (i .rollbackCompleted))
+  moves-told verificationFails i = record { tables = i; blocks = refl }
+  moves-told (rollbackSucceeds origin) i =
       by-direction j _ session toRollback (i .direction) (stays _ _ _ i refl refl refl refl refl (i .beginning) tt refl)
-  moves-told (rollback-fails verifyingRollsBack) i = stays _ _ _ i refl refl refl refl refl (i .table) refl (i .rolled-back)
-  moves-told (rollback-fails activatedRollsBack) i = stays _ _ _ i refl refl refl refl refl (i .table) refl (i .rolled-back)
-  moves-told revert-fails i = stays _ _ _ i refl refl refl refl refl (i .table) tt (i .rolled-back)
-  moves-told cleaning-activated-fails i = record { tables = i; blocks = refl }
-  moves-told cleaning-rolled-back-fails i = record { tables = i; blocks = refl }
+  moves-told (rollbackFails verifyingRollsBack) i = stays _ _ _ i refl refl refl refl refl (i .table) refl (i .rollbackCompleted)
+  moves-told (rollbackFails activatedRollsBack) i = stays _ _ _ i refl refl refl refl refl (i .table) refl (i .rollbackCompleted)
+  moves-told revertFails i = stays _ _ _ i refl refl refl refl refl (i .table) tt (i .rollbackCompleted)
+  moves-told cleaningActivatedFails i = record { tables = i; blocks = refl }
+  moves-told cleaningRolledBackFails i = record { tables = i; blocks = refl }
 
 -- ---- CleaningUp ends
 
@@ -86,7 +86,7 @@ returns-told : (j : Journal) (table : Table) → j .R ≡ table → Told j (retu
 unfolding returned runningIn
 returns-told j table e =
     record {
-      tables = record { beginning = e; listing = refl; table = e; at-idle = refl; direction = tt; rolled-back = refl };
+      tables = record { beginning = e; listing = refl; table = e; atIdle = refl; direction = tt; rollbackCompleted = refl };
       blocks = refl;
     }
 
@@ -94,9 +94,9 @@ pub ends-told : (j : Journal) (session : Session) {origin : CleanUpOrigin} {tabl
     → TablesAgree j (cleaningUp origin) session
     → Told j (acceptedNoted (report true) done j) idle (record { beginning = table; listed = [] })
 unfolding acceptedNoted reportNoted reportDone runningIn
-ends-told j session after-revert i = by-direction j _ _ toRevert (i .direction) (returns-told j _ (i .table))
-ends-told j session after-finish i = by-direction j _ _ toFinish (i .direction) (returns-told j _ (i .table))
-ends-told j session after-rollback i = by-direction j _ _ toFinish (i .direction) (returns-told j _ (i .table))
+ends-told j session afterRevert i = by-direction j _ _ toRevert (i .direction) (returns-told j _ (i .table))
+ends-told j session afterFinish i = by-direction j _ _ toFinish (i .direction) (returns-told j _ (i .table))
+ends-told j session afterRollback i = by-direction j _ _ toFinish (i .direction) (returns-told j _ (i .table))
 
 -- ---- Process and the ends of Processing
 
@@ -105,13 +105,13 @@ module _ (j : Journal) (session : Session) where
       → j .rollbackCompleted ≡ false → Told j (acceptedNoted (process id) answer j) processing session
   unfolding acceptedNoted runningIn
   begun id answer b a r c =
-      record { tables = record { beginning = b; listing = a; table = r; at-idle = refl; direction = tt; rolled-back = c }; blocks = refl }
+      record { tables = record { beginning = b; listing = a; table = r; atIdle = refl; direction = tt; rollbackCompleted = c }; blocks = refl }
 
   pub begins-told : (phase : Phase) (id : ℕ) (answer : Answer) → AtRest phase → TablesAgree j phase session
       → Told j (acceptedNoted (process id) answer j) processing session
   unfolding acceptedNoted runningIn
-  begins-told phase id answer in-idle i = begun id answer (i .beginning) (i .listing) (i .table) (i .rolled-back)
-  begins-told phase id answer in-ready i = begun id answer (i .beginning) (i .listing) (i .table) (i .rolled-back)
+  begins-told phase id answer inIdle i = begun id answer (i .beginning) (i .listing) (i .table) (i .rollbackCompleted)
+  begins-told phase id answer inReady i = begun id answer (i .beginning) (i .listing) (i .table) (i .rollbackCompleted)
 
   -- with no entry listed it is a return, else the session goes on
   left-told : (listed : List Entry) → j .A ≡ actions listed → TablesAgree j processing session
@@ -125,7 +125,7 @@ module _ (j : Journal) (session : Session) where
       subst (λ (x : List Action). Told j (elim x as (λ (y : List Action). Journal) [ [] ↦ returned j | a ∷ rest ↦ j ]) ready (record { beginning = session .beginning; listed = e ∷ listed }))
       (sym a)
       (record {
-        tables = record { beginning = i .beginning; listing = a; table = i .table; at-idle = i .at-idle; direction = tt; rolled-back = i .rolled-back };
+        tables = record { beginning = i .beginning; listing = a; table = i .table; atIdle = i .atIdle; direction = tt; rollbackCompleted = i .rollbackCompleted };
         blocks = refl;
       })
 
@@ -133,8 +133,8 @@ module _ (j : Journal) (session : Session) where
       → TablesAgree j processing session
       → Told j (acceptedNoted (work n) answer j) (phaseAfter (session .listed)) session
   unfolding acceptedNoted workNoted
-  leaves-told (by-cancel c) i = left-told (session .listed) (i .listing) i
-  leaves-told (by-sum c l e) i = left-told (session .listed) (i .listing) i
+  leaves-told (byCancel c) i = left-told (session .listed) (i .listing) i
+  leaves-told (bySum c l e) i = left-told (session .listed) (i .listing) i
 
   ready-after : (listed : List Entry) (e : Entry) → phaseAfter (listed ++ e ∷ []) ≡ ready
   ready-after [] e = refl
@@ -163,9 +163,9 @@ module _ (j : Journal) (session : Session) where
           listing = ap₂ (λ (l : List Action) (a : Action). l ++ a ∷ []) (i .listing) (action-read packages w k ∙ sym same)
               ∙ sym (actions-last (session .listed) e);
           table = i .table;
-          at-idle = i .at-idle;
+          atIdle = i .atIdle;
           direction = tt;
-          rolled-back = i .rolled-back;
+          rollbackCompleted = i .rollbackCompleted;
         };
         blocks = refl;
       })

@@ -14,16 +14,15 @@ use Rattle.model.specs.Step.{Outcome}
 use Rattle.model.specs.Load.{tableOrEmpty, loadedState, load}
 use Rattle.model.specs.Journal.{opened}
 use Rattle.model.proofs.soundness.LoadSound.{load-is, load-sound, load-accepted}
-use Rattle.model.proofs.store.Contents.{areasBytes}
-use Rattle.model.proofs.journal.Invariant.{Invariant}
+use Rattle.model.specs.Invariant.{areasBytes, Invariant}
 
 pub opened-invariant : (table : Table) (first size : ℕ) → sound (loadedState table first) (replicate size 0) ≡ true
     → Invariant (opened table) (loadedState table first) (replicate size 0)
 unfolding opened runningIn areasBytes
 opened-invariant table first size h =
     record {
-      is-sound = h;
-      tables = record { beginning = refl; listing = refl; table = refl; at-idle = refl; direction = tt; rolled-back = refl };
+      isSound = h;
+      tables = record { beginning = refl; listing = refl; table = refl; atIdle = refl; direction = tt; rollbackCompleted = refl };
       areas = record { filled = tt; behind = size; bytes = refl };
       fresh = λ id l. refl;
       keptValues = λ e. absurd (false≢true e);

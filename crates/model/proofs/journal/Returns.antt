@@ -18,9 +18,10 @@ use Rattle.model.specs.Sound.{listFits}
 use Rattle.model.specs.Step.{Outcome, phaseAfter, cleanedUp}
 use Rattle.model.specs.Journal.{toFinish, Journal}
 use Rattle.model.specs.Demand3.{Undone, byRevert, byRollback, nothingProcessed, TableAtReturn}
-use Rattle.model.proofs.transitions.Transitions.{Ends, after-revert, after-finish, after-rollback, Accepted, starts, puts-block, exits, deletes, processes, works-on, leaves, is-processed, cancels, moves, ends, moves-elsewhere}
+use Rattle.model.specs.Accepted.{Ends, afterRevert, afterFinish, afterRollback, Accepted, starts, putsBlock, exits, deletes, processes, worksOn, leaves, completes, cancels, moves, ends}
+use Rattle.model.proofs.transitions.MovesElsewhere.{moves-elsewhere}
 use Rattle.model.proofs.soundness.SoundFacts.{Sound}
-use Rattle.model.proofs.journal.Invariant.{TablesAgree, Invariant}
+use Rattle.model.specs.Invariant.{TablesAgree, Invariant}
 use Rattle.model.proofs.journal.InvariantTables.{staged-is}
 
 -- ---- the end of a session that is undone, and of one that is not
@@ -44,11 +45,11 @@ ends-return : (j : Journal) {session : Session} {origin : CleanUpOrigin} {table 
     → TablesAgree j (cleaningUp origin) session
     → passInTurn (session .beginning) [] (actions (session .listed)) ≡ true → listFits (cleaningUp origin) (session .listed) ≡ true
     → TableAtReturn j (report true) table
-ends-return j after-revert i turn fits = undone-return j _ _ (sym (i .beginning)) (byRevert (i .direction))
-ends-return j after-rollback i turn fits = undone-return j _ _ (sym (i .beginning)) (byRollback (i .direction) (i .rolled-back))
-ends-return j {session} after-finish i turn fits =
+ends-return j afterRevert i turn fits = undone-return j _ _ (sym (i .beginning)) (byRevert (i .direction))
+ends-return j afterRollback i turn fits = undone-return j _ _ (sym (i .beginning)) (byRollback (i .direction) (i .rollbackCompleted))
+ends-return j {session} afterFinish i turn fits =
     let n : j .A ≡ [] → ⊥ = λ e. some-listed (session .listed) fits (sym (i .listing) ∙ e) in
-    let goes-on : Undone j (report true) → ⊥ = not-undone j true (report true) refl (i .direction) (i .rolled-back) n in
+    let goes-on : Undone j (report true) → ⊥ = not-undone j true (report true) refl (i .direction) (i .rollbackCompleted) n in
     let same : applyAll (j .B) (j .A) ≡ staged session = staged-is j _ session i in
     let passed : passInTurn (j .B) [] (j .A) ≡ true = rw (i .beginning, i .listing) turn in
     record {
@@ -77,14 +78,14 @@ pub return-is : (j : Journal) {s : State} {store : Store} {call : Call} {o : Out
     → isIdle (s .phase) ≡ false → isIdle (o .state .phase) ≡ true → TableAtReturn j call (running (o .state))
 unfolding running cleanedUp
 return-is j ok (starts size h7 h16 h17 h18) i p q = clash q p
-return-is j ok (puts-block id counter block y e h5 h6 h7 h) i p q = clash q p
+return-is j ok (putsBlock id counter block y e h5 h6 h7 h) i p q = clash q p
 return-is j ok (exits id y m e h5 h8 h9) i p q = clash q p
 return-is j ok (deletes id y e h5 h) i p q = clash q p
 return-is j ok (processes id y m rest e h5 h9 h) i p q = absurd (false≢true q)
-return-is j ok (works-on w n c l) i p q = absurd (false≢true q)
+return-is j ok (worksOn w n c l) i p q = absurd (false≢true q)
 return-is j ok (leaves {session = session} w n f) i p q =
     left-return j session (work n) (session .listed) (i .tables .beginning) (i .tables .listing) q
-return-is j ok (is-processed {session = session} w n c l e) i p q = clash q (last-busy (session .listed) _)
+return-is j ok (completes {session = session} w n c l e) i p q = clash q (last-busy (session .listed) _)
 return-is j ok (cancels w id e) i p q = absurd (false≢true q)
 return-is j ok (moves g) i p q = clash q (moves-elsewhere g .0)
 return-is j ok (ends g) i p q = unfold runningIn in ends-return j g (i .tables) (ok .turn) (ok .fits)
@@ -97,13 +98,13 @@ pub beginning-stays : {s : State} {store : Store} {call : Call} {o : Outcome} �
     → o .state .session .beginning ≡ s .session .beginning
 unfolding cleanedUp
 beginning-stays (starts size h7 h16 h17 h18) q = refl
-beginning-stays (puts-block id counter block y e h5 h6 h7 h) q = refl
+beginning-stays (putsBlock id counter block y e h5 h6 h7 h) q = refl
 beginning-stays (exits id y m e h5 h8 h9) q = refl
 beginning-stays (deletes id y e h5 h) q = refl
 beginning-stays (processes id y m rest e h5 h9 h) q = refl
-beginning-stays (works-on w n c l) q = refl
+beginning-stays (worksOn w n c l) q = refl
 beginning-stays (leaves w n f) q = refl
-beginning-stays (is-processed w n c l e) q = refl
+beginning-stays (completes w n c l e) q = refl
 beginning-stays (cancels w id e) q = refl
 beginning-stays (moves g) q = refl
 beginning-stays (ends g) (inl e) = absurd (false≢true e)

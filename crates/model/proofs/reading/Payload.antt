@@ -1,7 +1,10 @@
--- Payload's bytes are exactly the count and end the area; the call beside it gives the number of the refusal, or 0. Assumes nothing.
+-- Payload's bytes are exactly the count and end the area; the call beside it gives the number of the refusal, or 0, and on a sound state
+-- 0 exactly where document 01 demands no refusal. Assumes nothing.
 use Prim.Native.Nat.{ℕ, _+_}
 use mathlib.Core.Path.{_≡_, refl, sym, ap, _∙_}
+use mathlib.Core.Bool.{true}
 use mathlib.Core.List.{List, [], _++_}
+use mathlib.Core.Logic.{_↔_}
 use mathlib.Core.Option.{Option, none, some}
 use native.Mathlib.Omega.{arith}
 use lib.Dec.{eqb}
@@ -11,14 +14,16 @@ use borrow.Author.Tests.{not-false}
 use Rattle.base.specs.Refusals.{firstRefusal, numberOrZero}
 use Rattle.base.proofs.Tests.{cond-cases, clash}
 use Rattle.manifest.specs.Package.{Manifest, consistent}
+use Rattle.manifest.specs.Refused.{isIllFormed, isInconsistent}
 use Rattle.manifest.proofs.Within.{readPackage-within}
-use Rattle.model.specs.State.{State, Store}
-use Rattle.model.specs.Areas.{find, areaOf}
+use Rattle.model.specs.State.{Package, State, Store}
+use Rattle.model.specs.Areas.{find, areaOf, isTransferring}
+use Rattle.model.specs.Sound.{sound}
 use Rattle.model.specs.Step.{named, areaRead, manifestOf}
-use Rattle.model.specs.Reading.{ReadingReply, given, furtherPayloadRefusals, payloadRefusals, payloadPart, emptyWhenRefused, payloadReply, payload, payloadCheck}
+use Rattle.model.specs.Reading.{ReadingReply, given, furtherPayloadRefusals, payloadRefusals, payloadPart, emptyWhenRefused, payloadReply, payload, payloadCheck, PayloadGiven}
 use Rattle.model.proofs.soundness.SoundFacts.{sound-says}
-use Rattle.model.proofs.soundness.Packages.{known-is}
-use Rattle.model.proofs.soundness.Accepted.{first-passed, rest-passed, read-is}
+use Rattle.model.proofs.soundness.Packages.{known-is, found-known, found-is}
+use Rattle.model.proofs.soundness.Accepted.{first-passed, rest-passed, passed-over, on-sound, read-is}
 use Rattle.model.proofs.store.StoreLength.{length-area}
 use Rattle.model.proofs.journal.NeverUnsound.{hasNumber, first-listed}
 use Rattle.model.proofs.reading.Replies.{reply-number}
@@ -97,3 +102,26 @@ module _ (s : State) (store : Store) (id : ℕ) where
         count = ap length behind ∙ long;
         inside = ap (λ (l : List ℕ). take (m .start) area ++ l) behind ∙ take-append-drop (m .start) area;
       }
+
+-- on a sound state the call beside Payload gives 0 exactly where what Payload demands is there
+pub given-exactly : (s : State) (store : Store) (id : ℕ) → sound s store ≡ true → (payloadCheck s store id ≡ 0) ↔ PayloadGiven s store id
+unfolding payloadRefusals furtherPayloadRefusals
+given-exactly s store id ok = (
+  λ z. (let h5 = rest-passed _ _ (rest-passed _ _ (check-zero s store id z)) in
+      let facts = payload-is s store id z in
+      record {
+        named = named s store id;
+        found = facts .found;
+        received = first-passed _ _ h5;
+        manifest = facts .manifest;
+        read = facts .read;
+      }),
+  λ g. (let ps = s .transfers .packages in
+      zero-check s store id
+      (on-sound s store (furtherPayloadRefusals s store id) ok
+      ∙ passed-over _ _ (found-known id ps (g .named) (g .found))
+      ∙ passed-over _ _ (ap (λ (p : Package). isTransferring (p .state)) (found-is id ps (g .named) (g .found)) ∙ g .received)
+      ∙ passed-over _ _ (ap isIllFormed (g .read))
+      ∙ passed-over _ _ (ap isInconsistent (g .read))
+      ∙ unfold firstRefusal in refl)),
+)

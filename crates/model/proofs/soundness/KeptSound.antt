@@ -18,7 +18,7 @@ use Rattle.model.specs.State.{transferred, Package, cleaningUp, readyCle
 use Rattle.model.specs.Calls.{Call, done, transferStart, transferData, transferExit, deleteTransfer, process, work, cancel, revert, activate, rollback, finish, report}
 use Rattle.model.specs.Areas.{packageOf, areaOf, inState, withBlock, isTransferring, isBeingProcessed, isProcessed, processingId, find}
 use Rattle.model.specs.Sound.{sound, keptSound}
-use Rattle.model.specs.Step.{Outcome, movesTo, outcome, withCancelNoted, areaRead, manifestOf, ownRefusals, furtherRefusals, refusals, workOn, taken, sumCompared, worked, act, settled, step}
+use Rattle.model.specs.Step.{Outcome, movesTo, outcome, withCancelNoted, areaRead, manifestOf, ownRefusals, furtherRefusals, refusals, workOn, taken, sumCompared, worked, act, unlessRefused, step}
 use Rattle.model.proofs.soundness.SoundFacts.{Sound, sound-says, sound-is}
 use Rattle.model.proofs.soundness.Packages.{Fine, known-is, found-fine}
 use Rattle.model.proofs.soundness.FinePackage.{transferring-is, transferred-is, part, fine-in-state, fine-with-block}
@@ -178,6 +178,6 @@ module _ (s : State) (store : Store) where
   step-sound call h = go (firstRefusal (refusals s store call)) refl
     where
       go : (o : Option ℕ) → firstRefusal (refusals s store call) ≡ o
-          → sound (settled s store o (act s store call) .state) (settled s store o (act s store call) .store) ≡ true
+          → sound (unlessRefused s store o (act s store call) .state) (unlessRefused s store o (act s store call) .store) ≡ true
       go none e = kept-sound call e
       go (some number) e = h

@@ -14,7 +14,7 @@ use Rattle.model.specs.State.{Package, Phase, isProcessing, Session, Wor
 use Rattle.model.specs.Areas.{packageOf, processingId}
 use Rattle.model.specs.Tables.{staged}
 use Rattle.model.specs.Sound.{keptSound}
-use Rattle.model.specs.Step.{workBegun, bytesTaken, workOn, withCancelNoted}
+use Rattle.model.specs.Step.{workAtStart, bytesTaken, workOn, withCancelNoted}
 use Rattle.model.proofs.soundness.SoundFacts.{WorkFacts, work-says, work-is}
 
 -- ---- kept or cleared
@@ -58,7 +58,7 @@ module _ (phase : Phase) (session : Session) (ps : List Package) where
 module _ (session : Session) (ps : List Package) where
   pub begun-facts : (m : Manifest) → actionWithin (m .action) ≡ true
       → passes (staged session) (actions (session .listed)) (m .action) ≡ true → m .start + m .count ≡ packageOf (processingId ps) ps .size
-      → m .sum ≤ 65535 → WorkFacts session ps (workBegun m)
+      → m .sum ≤ 65535 → WorkFacts session ps (workAtStart m)
   begun-facts m within passed size sum =
       record { within = within; passed = passed; size = size; done = omega arith; sum = sum; runningSums = start-within }
 

@@ -21,7 +21,7 @@ use Rattle.model.specs.State.{State, Store, idle}
 use Rattle.model.specs.Calls.{accepted, done, refused}
 use Rattle.model.specs.Areas.{declared, countIn}
 use Rattle.model.specs.Sound.{storeMost, idMost, packagesRise, processedAsListed, listFits, sound}
-use Rattle.model.specs.Step.{Outcome, outcome, settled}
+use Rattle.model.specs.Step.{Outcome, outcome, unlessRefused}
 use Rattle.model.specs.Load.{isNone, tableOrEmpty, isBadLoad, loadedState, load}
 use Rattle.model.proofs.soundness.SoundFacts.{Sound, sound-is}
 use Rattle.model.proofs.soundness.KeptValues.{cleared-is}
@@ -94,7 +94,7 @@ module _ (s : State) (list : List ℕ) (first : ℕ) (store : Store) where
   load-accepted = go (isBadLoad list first store)
     where
       go : (b : Bool)
-          → settled s store (cond b (some 20) none) loadAnswered .reply ≡ accepted done
+          → unlessRefused s store (cond b (some 20) none) loadAnswered .reply ≡ accepted done
           → b ≡ false
       go true e = cc
       go false e = refl
@@ -104,7 +104,7 @@ module _ (s : State) (list : List ℕ) (first : ℕ) (store : Store) where
   unfolding load firstRefusal
   load-refused number = go (isBadLoad list first store)
     where
-      go : (b : Bool) → (settled s store (cond b (some 20) none) loadAnswered .reply ≡ refused number) ↔ ((number ≡ 20) × (b ≡ true))
+      go : (b : Bool) → (unlessRefused s store (cond b (some 20) none) loadAnswered .reply ≡ refused number) ↔ ((number ≡ 20) × (b ≡ true))
       go true = (λ e. (cc, refl), λ h. cc)
       go false = (λ e. absurd (let z : _≡_ {A = ℕ} 0 1 = cc in omega arith), λ h. absurd (false≢true (h .1)))
 

@@ -1,6 +1,6 @@
 -- The staged and the running table of a sound state are within the limits, so that a list written of them can be loaded.
 -- Assumes nothing.
-use mathlib.Core.Path.{_≡_, refl, ap, _∙_}
+use mathlib.Core.Path.{_≡_, ap, _∙_}
 use mathlib.Core.Bool.{true}
 use mathlib.Core.Option.{Option, some}
 use Prim.Native.Nat.{ℕ, _≤_}
@@ -49,7 +49,3 @@ module _ (s : State) (store : Store) (h : sound s store ≡ true) where
   info-loads other first store′ least most room =
       load-is other (clusterInfo s) first store′ (loads-is other (clusterInfo s) first store′ (running s) info-read least most room)
       ∙ ap (λ (o : Option Table). outcome done (loadedState (tableOrEmpty o) first) (replicate (length store′) 0)) info-read
-
-pub loaded-running : (table : Table) (first : ℕ) → running (loadedState table first) ≡ table
-unfolding running runningIn
-loaded-running table first = refl

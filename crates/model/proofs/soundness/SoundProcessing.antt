@@ -17,7 +17,7 @@ use Rattle.model.specs.State.{PackageState, transferred, beingProcessed,
 use Rattle.model.specs.Areas.{find, inState, changed, isTransferring, isBeingProcessed, isProcessed, countIn, processingId}
 use Rattle.model.specs.Tables.{staged}
 use Rattle.model.specs.Sound.{isListed, keptSound, listFits}
-use Rattle.model.specs.Step.{withPackages, workBegun, workOn, withCancelNoted, phaseAfter, listedWith}
+use Rattle.model.specs.Step.{withPackages, workAtStart, workOn, withCancelNoted, phaseAfter, listedWith}
 use Rattle.model.proofs.soundness.SoundFacts.{WorkFacts, Sound}
 use Rattle.model.proofs.soundness.Packages.{Fine, found-fine, rise-changed}
 use Rattle.model.proofs.soundness.FinePackage.{processing-is, whole, fine-in-state}
@@ -59,7 +59,7 @@ module _ (s : State) (store : Store) (ok : Sound s store) where
   pub begun-sound : (id : ℕ) (p : Package) (m : Manifest) → isProcessing (s .phase) ≡ false → find id (s .transfers .packages) ≡ some p
       → p .state ≡ transferred
       → actionWithin (m .action) ≡ true → passes (staged (s .session)) (actions (s .session .listed)) (m .action) ≡ true → m .start + m .count ≡ p .size → m .sum ≤ 65535
-      → Sound (state processing (withPackages (changed id (inState beingProcessed) (s .transfers .packages)) (s .transfers)) (s .session) (some (workBegun m))) store
+      → Sound (state processing (withPackages (changed id (inState beingProcessed) (s .transfers .packages)) (s .transfers)) (s .session) (some (workAtStart m))) store
   begun-sound id p m outside e is within passed size sum =
       let ps = s .transfers .packages in
       let next = s .transfers .next in
@@ -70,11 +70,11 @@ module _ (s : State) (store : Store) (ok : Sound s store) where
       let none-being : countIn isBeingProcessed ps ≡ 0 = ok .processing ∙ ap one outside in
       let sized = processing-size 0 next (changed id change ps) rise ∙ of-begun sizeOf id change (λ q. refl) ps p e none-being refl in
       let unlisted : false ≡ isListed id (s .session .listed) = sym (ap isProcessed is) ∙ tied-found (s .session .listed) id ps p (ok .listed) e in
-      changed-sound s store ok id change (λ q. refl) (λ q. refl) p e fine′ processing (s .session) (some (workBegun m))
+      changed-sound s store ok id change (λ q. refl) (λ q. refl) p e fine′ processing (s .session) (some (workAtStart m))
       (ok .beginning) (ok .within) (ok .turn)
       (omega (arith, ok .entries, count-changed isProcessed id change ps p e, ap (λ (x : PackageState). one (isProcessed x)) is))
       (tied-changed (s .session .listed) (s .session .listed) id (λ j o. refl) change (λ q. refl) 0 next ps p (ok .rise) e unlisted (ok .listed))
-      (kept-is processing (s .session) (changed id change ps) (workBegun m) refl (begun-facts (s .session) (changed id change ps) m within passed (size ∙ sym sized) sum))
+      (kept-is processing (s .session) (changed id change ps) (workAtStart m) refl (begun-facts (s .session) (changed id change ps) m within passed (size ∙ sym sized) sum))
       (omega (arith, none-being, count-changed isBeingProcessed id change ps p e, ap (λ (x : PackageState). one (isBeingProcessed x)) is))
       (fits-processing (s .session .listed))
 

@@ -18,7 +18,7 @@ use Rattle.model.specs.Permissions.{permissions, allowed}
 use Rattle.model.specs.Areas.{remaining, isBeingProcessed, isProcessed}
 use Rattle.model.specs.Tables.{staged}
 use Rattle.model.specs.Sound.{listFits}
-use Rattle.model.specs.Step.{activatingPhase, rollbackPhase, cleanedUp, reported}
+use Rattle.model.specs.Step.{activatingPhase, rollbackPhase, cleanedUp, reportOutcome}
 use Rattle.model.proofs.soundness.SoundFacts.{Sound}
 use Rattle.model.proofs.soundness.Packages.{rise-kept, declared-kept, length-kept}
 use Rattle.model.proofs.soundness.FinePackage.{processing-is}
@@ -168,8 +168,8 @@ module _ (s : State) (store : Store) (ok : Sound s store) where
   same phase e = subst (λ (x : Phase). Sound (state x (s .transfers) (s .session) (s .work)) store) e ok
 
   pub reported-sound : (phase : Phase) → s .phase ≡ phase → (good : Bool)
-      → Sound (reported s store phase good .state) (reported s store phase good .store)
-  unfolding reported
+      → Sound (reportOutcome s store phase good .state) (reportOutcome s store phase good .store)
+  unfolding reportOutcome
   reported-sound activating e good = to activating e refl (activatingPhase good (needsMet (staged (s .session)))) (rests-activating good (needsMet (staged (s .session))))
   reported-sound verifying e true = to verifying e refl activated refl
   reported-sound verifying e false = to verifying e refl verifying refl

@@ -1,5 +1,6 @@
 -- Blocks put at different ids commute, and so do the changes of their packages: the order in which they come does not matter. Each
--- block fits its area and the areas fit the store. Assumes nothing.
+-- block fits its area and the areas fit the store. It is for lists in which neighbouring blocks of different ids are exchanged; no other
+-- proof needs it. Assumes nothing.
 use mathlib.Core.Path.{_≡_, refl, sym, ap, ap₂, subst, _∙_}
 use mathlib.Core.Bool.{true, false, cond}
 use mathlib.Core.List.{List, [], _∷_, _++_, append-assoc}

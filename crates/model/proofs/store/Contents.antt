@@ -14,34 +14,8 @@ use borrow.Author.Tests.{eqb-true}
 use Rattle.base.proofs.Tests.{bool-cases, none-some}
 use Rattle.model.specs.State.{PackageState, Package, Store}
 use Rattle.model.specs.Areas.{declared, free, find, areaOf, remaining, remainingAreas, deleted, newPackage, inState, changed}
+use Rattle.model.specs.Invariant.{zeros, areaBytes, areasBytes, Filled, AllFilled, Holds}
 use Rattle.model.proofs.soundness.Packages.{found-id}
-
-abbrev pub zeros : ℕ → List ℕ
-zeros n = replicate n 0
-
--- the bytes of a package's area, given the joined blocks of each id
-unfoldable pub areaBytes : (ℕ → List ℕ) → Package → List ℕ
-areaBytes blocks p = blocks (p .id) ++ zeros (p .size - p .received)
-
--- the bytes of all areas, back to back
-unfoldable pub areasBytes : (ℕ → List ℕ) → List Package → List ℕ
-areasBytes blocks [] = []
-areasBytes blocks (p ∷ ps) = areaBytes blocks p ++ areasBytes blocks ps
-
--- a package has received as many bytes as its joined blocks have, and no more than its size
-pub record Filled (blocks : ℕ → List ℕ) (p : Package) : Type 0 where
-  pub joined : length (blocks (p .id)) ≡ p .received
-  pub within : p .received ≤ p .size
-
-abbrev pub AllFilled : (ℕ → List ℕ) → List Package → Type 0
-AllFilled blocks [] = Unit {0}
-AllFilled blocks (p ∷ ps) = Filled blocks p × AllFilled blocks ps
-
--- "from Load on, with no other writer, bytes not yet received and bytes past the last area are 0"
-pub record Holds (blocks : ℕ → List ℕ) (ps : List Package) (store : Store) : Type 0 where
-  pub filled : AllFilled blocks ps
-  pub behind : ℕ
-  pub bytes : store ≡ areasBytes blocks ps ++ zeros behind
 
 -- ---- lengths
 

@@ -17,7 +17,8 @@ use Rattle.model.specs.Areas.{find, overwritten, blockPut, withBlock, ch
 use Rattle.model.specs.Sound.{packagesRise}
 use Rattle.model.specs.Journal.{blockJoined}
 use Rattle.model.proofs.soundness.SoundFacts.{Rises, rises-says}
-use Rattle.model.proofs.store.Contents.{zeros, areaBytes, areasBytes, Filled, AllFilled, Holds, take-first, drop-first, replicate-split}
+use Rattle.model.specs.Invariant.{zeros, areaBytes, areasBytes, Filled, AllFilled, Holds}
+use Rattle.model.proofs.store.Contents.{take-first, drop-first, replicate-split}
 
 -- ---- a block is put
 

@@ -13,7 +13,7 @@ use Rattle.clusters.specs.Table.{Table}
 use Rattle.model.specs.State.{Phase, idle, ready, processing, activating, verifying, activated, rollingBack, rolledBack, cleaningUp, readyCleansUp, activatedCleansUp, rolledBackCleansUp, Work, State, state, Store}
 use Rattle.model.specs.Calls.{Call, done, transferStart, transferData, transferExit, deleteTransfer, process, work, cancel, revert, activate, rollback, finish, report}
 use Rattle.model.specs.Areas.{packageOf, areaOf, isProcessed, processingId}
-use Rattle.model.specs.Step.{Outcome, outcome, movesTo, withCancelNoted, workOn, taken, sumCompared, worked, cleanedUp, reported, ownRefusals, refusals, act, settled, step}
+use Rattle.model.specs.Step.{Outcome, outcome, movesTo, withCancelNoted, workOn, taken, sumCompared, worked, cleanedUp, reportOutcome, ownRefusals, refusals, act, unlessRefused, step}
 use Rattle.model.proofs.soundness.SoundFacts.{Sound, sound-says}
 use Rattle.model.proofs.soundness.Packages.{known-is}
 use Rattle.model.proofs.store.StoreLength.{length-block-put, length-deleted}
@@ -37,8 +37,8 @@ module _ (s : State) (store : Store) where
     unfolding cleanedUp
     cleaned-long table = length-deleted (λ p. not (isProcessed (p .state))) (s .transfers .packages) store (ok .fit)
 
-    reported-long : (phase : Phase) (good : Bool) → AsLong (reported s store phase good)
-    unfolding reported
+    reported-long : (phase : Phase) (good : Bool) → AsLong (reportOutcome s store phase good)
+    unfolding reportOutcome
     reported-long (cleaningUp readyCleansUp) true = cleaned-long _
     reported-long (cleaningUp activatedCleansUp) true = cleaned-long _
     reported-long (cleaningUp rolledBackCleansUp) true = cleaned-long _
@@ -92,6 +92,6 @@ module _ (s : State) (store : Store) where
   unfolding step
   step-keeps-length call = go (firstRefusal (refusals s store call)) refl
     where
-      go : (o : Option ℕ) → firstRefusal (refusals s store call) ≡ o → length (settled s store o (act s store call) .store) ≡ length store
+      go : (o : Option ℕ) → firstRefusal (refusals s store call) ≡ o → length (unlessRefused s store o (act s store call) .store) ≡ length store
       go none e = accepted-keeps-length call e
       go (some number) e = refl

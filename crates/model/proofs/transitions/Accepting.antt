@@ -15,8 +15,8 @@ use Rattle.model.specs.Permissions.{allowed}
 use Rattle.model.specs.Areas.{areaOf, processingId}
 use Rattle.model.specs.Tables.{staged}
 use Rattle.model.specs.Sound.{keptSound}
-use Rattle.model.specs.Step.{Outcome, ownRefusals, refusals, taken, workOn, sumCompared, worked, reported, act}
-use Rattle.model.proofs.transitions.Transitions.{AtRest, in-idle, in-ready, reverts, activates, rolls-back-verifying, rolls-back-activated, finishes-activated, finishes-rolled-back, activation-fails, needs-missing, is-activated, is-verified, verification-fails, is-rolled-back, rollback-fails, revert-fails, cleaning-activated-fails, cleaning-rolled-back-fails, after-revert, after-finish, after-rollback, by-cancel, by-sum, Accepted, works-on, leaves, is-processed, cancels, moves, ends}
+use Rattle.model.specs.Step.{Outcome, ownRefusals, refusals, taken, workOn, sumCompared, worked, reportOutcome, act}
+use Rattle.model.specs.Accepted.{AtRest, inIdle, inReady, reverts, activates, rollsBackVerifying, rollsBackActivated, finishesActivated, finishesRolledBack, activationFails, needsMissing, activationSucceeds, verificationSucceeds, verificationFails, rollbackSucceeds, rollbackFails, revertFails, cleaningActivatedFails, cleaningRolledBackFails, afterRevert, afterFinish, afterRollback, byCancel, bySum, Accepted, worksOn, leaves, completes, cancels, moves, ends}
 use Rattle.model.proofs.soundness.SoundFacts.{sound-says}
 use Rattle.model.proofs.soundness.Accepted.{first-passed, accepted-sound, accepted-allowed, accepted-own}
 use Rattle.model.proofs.transitions.AcceptingPackages.{start-is, block-is, exit-is, delete-is, process-is}
@@ -25,8 +25,8 @@ use Rattle.model.proofs.transitions.AcceptingPackages.{start-is, block-
 may-process : (phase : Phase) (id : ℕ) → allowed phase (process id) ≡ true → AtRest phase
 unfolding allowed
 may-process phase id = elim phase [
-  | idle ↦ λ e. in-idle
-  | ready ↦ λ e. in-ready
+  | idle ↦ λ e. inIdle
+  | ready ↦ λ e. inReady
   | processing ↦ λ e. absurd (false≢true e)
   | activating ↦ λ e. absurd (false≢true e)
   | verifying ↦ λ e. absurd (false≢true e)
@@ -45,10 +45,10 @@ module _ (t : Transfers) (session : Session) (store : Store) where
   unfolding worked sumCompared
   worked-is w n =
       let P : Outcome → Type 0 = Accepted (state processing t session (some w)) store (work n) in
-      cond-cases P (w .cancelNoted) _ _ (λ c. leaves w n (by-cancel c)) λ c.
-      cond-cases P (ltb (w .done + taken w n) (w .count)) _ _ (λ l. works-on w n c (ltb-true _ _ l)) λ l.
-      cond-cases P (eqb (sumNumber (after w n .runningSums)) (w .sum)) _ _ (λ e. is-processed w n c (ltb-false _ _ l) e)
-      λ e. leaves w n (by-sum c (ltb-false _ _ l) e)
+      cond-cases P (w .cancelNoted) _ _ (λ c. leaves w n (byCancel c)) λ c.
+      cond-cases P (ltb (w .done + taken w n) (w .count)) _ _ (λ l. worksOn w n c (ltb-true _ _ l)) λ l.
+      cond-cases P (eqb (sumNumber (after w n .runningSums)) (w .sum)) _ _ (λ e. completes w n c (ltb-false _ _ l) e)
+      λ e. leaves w n (bySum c (ltb-false _ _ l) e)
 
   work-is : (k : Option Work) (n : ℕ) → keptSound processing session (t .packages) k ≡ true
       → Accepted (state processing t session k) store (work n) (act (state processing t session k) store (work n))
@@ -101,8 +101,8 @@ module _ (t : Transfers) (session : Session) (store : Store) where
     | ready ↦ λ e. absurd (false≢true e)
     | processing ↦ λ e. absurd (false≢true e)
     | activating ↦ λ e. absurd (false≢true e)
-    | verifying ↦ λ e. moves rolls-back-verifying
-    | activated ↦ λ e. moves rolls-back-activated
+    | verifying ↦ λ e. moves rollsBackVerifying
+    | activated ↦ λ e. moves rollsBackActivated
     | rollingBack origin ↦ λ e. absurd (false≢true e)
     | rolledBack ↦ λ e. absurd (false≢true e)
     | cleaningUp origin ↦ λ e. absurd (false≢true e)
@@ -117,39 +117,39 @@ module _ (t : Transfers) (session : Session) (store : Store) where
     | processing ↦ λ e. absurd (false≢true e)
     | activating ↦ λ e. absurd (false≢true e)
     | verifying ↦ λ e. absurd (false≢true e)
-    | activated ↦ λ e. moves finishes-activated
+    | activated ↦ λ e. moves finishesActivated
     | rollingBack origin ↦ λ e. absurd (false≢true e)
-    | rolledBack ↦ λ e. moves finishes-rolled-back
+    | rolledBack ↦ λ e. moves finishesRolledBack
     | cleaningUp origin ↦ λ e. absurd (false≢true e)
   ]
 
   activating-is : (k : Option Work) (good : Bool)
       → Accepted (state activating t session k) store (report good) (act (state activating t session k) store (report good))
-  unfolding act reported
-  activating-is k false = moves activation-fails
-  activating-is k true = bool-cases (needsMet (staged session)) (λ e. rw e (moves (is-activated e))) λ e. rw e (moves (needs-missing e))
+  unfolding act reportOutcome
+  activating-is k false = moves activationFails
+  activating-is k true = bool-cases (needsMet (staged session)) (λ e. rw e (moves (activationSucceeds e))) λ e. rw e (moves (needsMissing e))
 
   cleaning-up-is : (origin : CleanUpOrigin) (k : Option Work) (good : Bool)
       → Accepted (state (cleaningUp origin) t session k) store (report good) (act (state (cleaningUp origin) t session k) store (report good))
-  unfolding act reported
-  cleaning-up-is readyCleansUp k true = ends after-revert
-  cleaning-up-is activatedCleansUp k true = ends after-finish
-  cleaning-up-is rolledBackCleansUp k true = ends after-rollback
-  cleaning-up-is readyCleansUp k false = moves revert-fails
-  cleaning-up-is activatedCleansUp k false = moves cleaning-activated-fails
-  cleaning-up-is rolledBackCleansUp k false = moves cleaning-rolled-back-fails
+  unfolding act reportOutcome
+  cleaning-up-is readyCleansUp k true = ends afterRevert
+  cleaning-up-is activatedCleansUp k true = ends afterFinish
+  cleaning-up-is rolledBackCleansUp k true = ends afterRollback
+  cleaning-up-is readyCleansUp k false = moves revertFails
+  cleaning-up-is activatedCleansUp k false = moves cleaningActivatedFails
+  cleaning-up-is rolledBackCleansUp k false = moves cleaningRolledBackFails
 
   verifying-is : (k : Option Work) (good : Bool)
       → Accepted (state verifying t session k) store (report good) (act (state verifying t session k) store (report good))
-  unfolding act reported
-  verifying-is k true = moves is-verified
-  verifying-is k false = moves verification-fails
+  unfolding act reportOutcome
+  verifying-is k true = moves verificationSucceeds
+  verifying-is k false = moves verificationFails
 
   rolling-back-is : (origin : RollbackOrigin) (k : Option Work) (good : Bool)
       → Accepted (state (rollingBack origin) t session k) store (report good) (act (state (rollingBack origin) t session k) store (report good))
-  unfolding act reported
-  rolling-back-is origin k true = moves (is-rolled-back origin)
-  rolling-back-is origin k false = moves (rollback-fails origin)
+  unfolding act reportOutcome
+  rolling-back-is origin k true = moves (rollbackSucceeds origin)
+  rolling-back-is origin k false = moves (rollbackFails origin)
 
   report-is : (phase : Phase) (k : Option Work) (good : Bool) → allowed phase (report good) ≡ true
       → Accepted (state phase t session k) store (report good) (act (state phase t session k) store (report good))

@@ -15,9 +15,10 @@ use Rattle.model.specs.State.{State, state, Store}
 use Rattle.model.specs.Calls.{transferStart, transferData, transferExit, deleteTransfer, process}
 use Rattle.model.specs.Areas.{packageOf, isBeingProcessed}
 use Rattle.model.specs.Step.{manifestOf, areaRead, ownRefusals, act}
-use Rattle.model.proofs.transitions.Transitions.{AtRest, Accepted, starts, puts-block, exits, deletes, processes}
+use Rattle.model.specs.Accepted.{AtRest, Accepted, starts, putsBlock, exits, deletes, processes}
 use Rattle.model.proofs.soundness.Packages.{known-is}
 use Rattle.model.proofs.soundness.Accepted.{first-passed, rest-passed, read-is}
+use Rattle.model.proofs.transitions.Passing.{passing}
 
 module _ (s : State) (store : Store) where
   pub start-is : (size : ℕ) → firstRefusal (ownRefusals s store (transferStart size)) ≡ none
@@ -39,7 +40,7 @@ module _ (s : State) (store : Store) where
       let h5 = rest-passed _ _ h in
       let h6 = rest-passed _ _ h5 in
       let h7 = first-passed _ _ (rest-passed _ _ h6) in
-      puts-block id counter block p (known-is id ps (first-passed _ _ h)) (not-false _ (first-passed _ _ h5))
+      putsBlock id counter block p (known-is id ps (first-passed _ _ h)) (not-false _ (first-passed _ _ h5))
       (eqb-true _ _ (not-false _ (first-passed _ _ h6)))
       (ltb-false _ _ (or-left-false _ _ h7)) (ltb-false _ _ (or-right-false (ltb (length block) 1) _ h7))
 
@@ -74,4 +75,5 @@ module _ (s : State) (store : Store) where
       let h10 = rest-passed _ _ h9 in
       processes id (packageOf id ps) (manifestOf (areaRead s store id)) rest (known-is id ps (first-passed _ _ h))
       (not-false _ (first-passed _ _ h5))
-      (read-is (areaRead s store id) (first-passed _ _ h9) (first-passed _ _ h10)) (none-accepted _ (rest-passed _ _ h10))
+      (read-is (areaRead s store id) (first-passed _ _ h9) (first-passed _ _ h10))
+      (passing _ _ _ (none-accepted _ (rest-passed _ _ h10)))

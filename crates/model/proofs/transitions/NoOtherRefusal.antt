@@ -25,11 +25,12 @@ use Rattle.model.specs.Permissions.{allowed}
 use Rattle.model.specs.Areas.{free, find, areaOf, isTransferring, isTransferred, isBeingProcessed, isProcessed, processingId, inState, changed}
 use Rattle.model.specs.Tables.{staged}
 use Rattle.model.specs.Sound.{packagesMost, idMost, sound}
-use Rattle.model.specs.Step.{Outcome, outcome, areaRead, manifestOf, ownRefusals, furtherRefusals, withPackages, workBegun, taken, workOn, endsProcessing, listedWith, sumCompared, worked, cleanedUp, reported, act, settled, step}
+use Rattle.model.specs.Step.{Outcome, outcome, areaRead, manifestOf, ownRefusals, furtherRefusals, withPackages, workAtStart, taken, workOn, endsProcessing, listedWith, sumCompared, worked, cleanedUp, reportOutcome, act, unlessRefused, step}
 use Rattle.model.proofs.soundness.Packages.{found-known, found-is}
 use Rattle.model.proofs.soundness.Accepted.{passed-over, sound-decided}
 use Rattle.model.proofs.soundness.SoundSession.{each-phase, allowedAt}
-use Rattle.model.proofs.transitions.Transitions.{AtRest, in-idle, in-ready, Moves, reverts, activates, rolls-back-verifying, rolls-back-activated, finishes-activated, finishes-rolled-back, activation-fails, needs-missing, is-activated, is-verified, verification-fails, is-rolled-back, rollback-fails, revert-fails, cleaning-activated-fails, cleaning-rolled-back-fails, Ends, after-revert, after-finish, after-rollback, Leaves, by-cancel, by-sum, Accepted, starts, puts-block, exits, deletes, processes, works-on, leaves, is-processed, cancels, moves, ends}
+use Rattle.model.specs.Accepted.{Applicable, AtRest, inIdle, inReady, Moves, reverts, activates, rollsBackVerifying, rollsBackActivated, finishesActivated, finishesRolledBack, activationFails, needsMissing, activationSucceeds, verificationSucceeds, verificationFails, rollbackSucceeds, rollbackFails, revertFails, cleaningActivatedFails, cleaningRolledBackFails, Ends, afterRevert, afterFinish, afterRollback, Leaves, byCancel, bySum, Accepted, starts, putsBlock, exits, deletes, processes, worksOn, leaves, completes, cancels, moves, ends}
+use Rattle.model.proofs.transitions.Passing.{applicable-passes}
 use Rattle.model.proofs.transitions.Accepting.{accepted-is}
 use Rattle.model.proofs.transitions.Refused.{step-cases}
 
@@ -48,7 +49,7 @@ module _ (s : State) (store : Store) (h : sound s store ≡ true) where
       → firstRefusal (ownRefusals s store call) ≡ none → step s store call ≡ act s store call
   unfolding step furtherRefusals
   does call busy may own =
-      ap (λ (r : Option ℕ). settled s store r (act s store call))
+      ap (λ (r : Option ℕ). unlessRefused s store r (act s store call))
       (sound-decided s store call h ∙ goes-on _ _ busy (goes-on _ _ (ap not may) own))
 
 -- ---- the calls of the packages
@@ -56,8 +57,8 @@ module _ (s : State) (store : Store) (h : sound s store ≡ true) where
 -- "Process(id): Idle or Ready to Processing."
 at-rest : (phase : Phase) → AtRest phase → (id : ℕ) → (isProcessing phase ≡ false) × (allowed phase (process id) ≡ true)
 unfolding allowed
-at-rest phase in-idle id = (refl, refl)
-at-rest phase in-ready id = (refl, refl)
+at-rest phase inIdle id = (refl, refl)
+at-rest phase inReady id = (refl, refl)
 
 -- the transfer calls are allowed "always": in each row of the table
 module _ (s : State) (store : Store) (h : sound s store ≡ true) where
@@ -102,7 +103,7 @@ module _ (s : State) (store : Store) (h : sound s store ≡ true) where
         (goes-on _ _ (found-known id ps p e) (goes-on _ _ (rw (found-is id ps p e, being, done)) nothing-left))
 
   does-process : (id : ℕ) (p : Package) (m : Manifest) → AtRest (s .phase) → find id ps ≡ some p → isTransferred (p .state) ≡ true
-      → areaRead s store id ≡ consistent m → passes (staged (s .session)) (actions (s .session .listed)) (m .action) ≡ true
+      → areaRead s store id ≡ consistent m → Applicable (staged (s .session)) (actions (s .session .listed)) (m .action)
       → step s store (process id) ≡ act s store (process id)
   unfolding ownRefusals passes
   does-process id p m rest e h5 h9 h11 =
@@ -115,7 +116,7 @@ module _ (s : State) (store : Store) (h : sound s store ≡ true) where
       (ap
       (λ (read : PackageRead). firstRefusal (actionRefusals (staged (s .session)) (actions (s .session .listed)) (manifestOf read .action)))
       h9
-      ∙ accepted-none _ h11)))))
+      ∙ accepted-none _ (applicable-passes _ _ h11))))))
 
 -- ---- the calls of the session
 
@@ -142,8 +143,8 @@ module _ (t : Transfers) (session : Session) (store : Store) (w : Work) (n : ℕ
   leaves-package : (answer : Answer) → Leaves before store w n answer
       → step before store (work n) ≡ endsProcessing before store answer transferred (session .listed)
   unfolding worked sumCompared
-  leaves-package answer (by-cancel c) = does-work ∙ rw c
-  leaves-package answer (by-sum c l e) = compares c l ∙ rw e
+  leaves-package answer (byCancel c) = does-work ∙ rw c
+  leaves-package answer (bySum c l e) = compares c l ∙ rw e
 
   processes-package : w .cancelNoted ≡ false → w .count ≤ w .done + taken w n
       → eqb (sumNumber (after .runningSums)) (w .sum) ≡ true
@@ -154,31 +155,31 @@ module _ (t : Transfers) (session : Session) (store : Store) (w : Work) (n : ℕ
 does-move : {phase phase′ : Phase} {call : Call} {answer : Answer} (t : Transfers) (session : Session) (k : Option Work) (store : Store)
     → Moves (needsMet (staged session)) call answer phase phase′ → sound (state phase t session k) store ≡ true
     → step (state phase t session k) store call ≡ outcome answer (state phase′ t session k) store
-unfolding ownRefusals allowed act reported
+unfolding ownRefusals allowed act reportOutcome
 does-move t session k store reverts h = does _ store h _ refl refl nothing-left
 does-move t session k store activates h = does _ store h _ refl refl nothing-left
-does-move t session k store rolls-back-verifying h = does _ store h _ refl refl nothing-left
-does-move t session k store rolls-back-activated h = does _ store h _ refl refl nothing-left
-does-move t session k store finishes-activated h = does _ store h _ refl refl nothing-left
-does-move t session k store finishes-rolled-back h = does _ store h _ refl refl nothing-left
-does-move t session k store activation-fails h = does _ store h _ refl refl nothing-left
-does-move t session k store (needs-missing m) h = does _ store h _ refl refl nothing-left ∙ rw m
-does-move t session k store (is-activated m) h = does _ store h _ refl refl nothing-left ∙ rw m
-does-move t session k store is-verified h = does _ store h _ refl refl nothing-left
-does-move t session k store verification-fails h = does _ store h _ refl refl nothing-left
-does-move t session k store (is-rolled-back origin) h = does _ store h _ refl refl nothing-left
-does-move t session k store (rollback-fails origin) h = does _ store h _ refl refl nothing-left
-does-move t session k store revert-fails h = does _ store h _ refl refl nothing-left
-does-move t session k store cleaning-activated-fails h = does _ store h _ refl refl nothing-left
-does-move t session k store cleaning-rolled-back-fails h = does _ store h _ refl refl nothing-left
+does-move t session k store rollsBackVerifying h = does _ store h _ refl refl nothing-left
+does-move t session k store rollsBackActivated h = does _ store h _ refl refl nothing-left
+does-move t session k store finishesActivated h = does _ store h _ refl refl nothing-left
+does-move t session k store finishesRolledBack h = does _ store h _ refl refl nothing-left
+does-move t session k store activationFails h = does _ store h _ refl refl nothing-left
+does-move t session k store (needsMissing m) h = does _ store h _ refl refl nothing-left ∙ rw m
+does-move t session k store (activationSucceeds m) h = does _ store h _ refl refl nothing-left ∙ rw m
+does-move t session k store verificationSucceeds h = does _ store h _ refl refl nothing-left
+does-move t session k store verificationFails h = does _ store h _ refl refl nothing-left
+does-move t session k store (rollbackSucceeds origin) h = does _ store h _ refl refl nothing-left
+does-move t session k store (rollbackFails origin) h = does _ store h _ refl refl nothing-left
+does-move t session k store revertFails h = does _ store h _ refl refl nothing-left
+does-move t session k store cleaningActivatedFails h = does _ store h _ refl refl nothing-left
+does-move t session k store cleaningRolledBackFails h = does _ store h _ refl refl nothing-left
 
 does-end : {origin : CleanUpOrigin} {table : Table} (t : Transfers) (session : Session) (k : Option Work) (store : Store)
     → Ends session origin table → sound (state (cleaningUp origin) t session k) store ≡ true
     → step (state (cleaningUp origin) t session k) store (report true) ≡ cleanedUp (state (cleaningUp origin) t session k) store table
-unfolding ownRefusals allowed act reported
-does-end t session k store after-revert h = does _ store h _ refl refl nothing-left
-does-end t session k store after-finish h = does _ store h _ refl refl nothing-left
-does-end t session k store after-rollback h = does _ store h _ refl refl nothing-left
+unfolding ownRefusals allowed act reportOutcome
+does-end t session k store afterRevert h = does _ store h _ refl refl nothing-left
+does-end t session k store afterFinish h = does _ store h _ refl refl nothing-left
+does-end t session k store afterRollback h = does _ store h _ refl refl nothing-left
 
 -- ---- all of them
 
@@ -186,7 +187,7 @@ pub accepted-does : {s : State} {store : Store} {call : Call} {o : Outcome} → 
     → step s store call ≡ o
 unfolding ownRefusals allowed act
 accepted-does {s} {store} h (starts size h7 h16 h17 h18) = does-start s store h size h7 h16 h17 h18
-accepted-does {s} {store} h (puts-block id counter block p e h5 h6 h7 fits) = does-block s store h id p e counter block h5 h6 h7 fits
+accepted-does {s} {store} h (putsBlock id counter block p e h5 h6 h7 fits) = does-block s store h id p e counter block h5 h6 h7 fits
 accepted-does {s} {store} h (exits id p m e h5 h8 h9) = does-exit s store h id p e m h5 h8 h9
 accepted-does {s} {store} h (deletes id p e being done) = does-delete s store h id p e being done
 accepted-does {s} {store} h (processes id p m rest e h5 h9 h11) =
@@ -197,12 +198,12 @@ accepted-does {s} {store} h (processes id p m rest e h5 h9 h11) =
     processing
     (withPackages (changed id (inState beingProcessed) (s .transfers .packages)) (s .transfers))
     (s .session)
-    (some (workBegun (manifestOf read))))
+    (some (workAtStart (manifestOf read))))
     store)
     h9
-accepted-does h (works-on {t} {session} {store} w n c l) = goes-on-working t session store w n h c l
+accepted-does h (worksOn {t} {session} {store} w n c l) = goes-on-working t session store w n h c l
 accepted-does h (leaves {t} {session} {store} w n {answer} f) = leaves-package t session store w n h answer f
-accepted-does h (is-processed {t} {session} {store} w n c l e) = processes-package t session store w n h c l e
+accepted-does h (completes {t} {session} {store} w n c l e) = processes-package t session store w n h c l e
 accepted-does h (cancels {t} {session} {store} w id e) =
     does _ store h (cancel id) refl refl (goes-on _ _ (ap not (eq-eqb _ _ e)) nothing-left)
 accepted-does h (moves {t = t} {session = session} {k = k} {store = store} m) = does-move t session k store m h

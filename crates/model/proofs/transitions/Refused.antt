@@ -9,9 +9,9 @@ use native.Mathlib.Omega.{arith}
 use Rattle.base.specs.Refusals.{firstRefusal}
 use Rattle.model.specs.State.{State, Store}
 use Rattle.model.specs.Calls.{Call, Answer, Reply, refused, accepted}
-use Rattle.model.specs.Step.{Outcome, refusals, cleanedUp, act, settled, step}
+use Rattle.model.specs.Step.{Outcome, refusals, cleanedUp, act, unlessRefused, step}
 use Rattle.model.specs.Run.{Made, Run, run, acceptedOnly, callsOf}
-use Rattle.model.proofs.transitions.Transitions.{Accepted, starts, puts-block, exits, deletes, processes, works-on, leaves, is-processed, cancels, moves, ends}
+use Rattle.model.specs.Accepted.{Accepted, starts, putsBlock, exits, deletes, processes, worksOn, leaves, completes, cancels, moves, ends}
 use Rattle.model.proofs.transitions.Accepting.{accepted-is}
 
 -- ---- one call
@@ -23,7 +23,7 @@ pub step-cases : (P : Outcome → Type 0) (s : State) (store : Store) (call : Ca
 unfolding step
 step-cases P s store call refuses accepts = go (firstRefusal (refusals s store call)) refl
   where
-    go : (r : Option ℕ) → firstRefusal (refusals s store call) ≡ r → P (settled s store r (act s store call))
+    go : (r : Option ℕ) → firstRefusal (refusals s store call) ≡ r → P (unlessRefused s store r (act s store call))
     go none e = accepts e
     go (some number) e = refuses number e
 
@@ -32,13 +32,13 @@ answered : {s : State} {store : Store} {call : Call} {o : Outcome} → Accepted 
     → (answer : Answer) × (o .reply ≡ accepted answer)
 unfolding cleanedUp
 answered (starts size h7 h16 h17 h18) = (_, refl)
-answered (puts-block id counter block p e h5 h6 h7 h) = (_, refl)
+answered (putsBlock id counter block p e h5 h6 h7 h) = (_, refl)
 answered (exits id p m e h5 h8 h9) = (_, refl)
 answered (deletes id p e h5 h) = (_, refl)
 answered (processes id p m rest e h5 h9 h) = (_, refl)
-answered (works-on w n c l) = (_, refl)
+answered (worksOn w n c l) = (_, refl)
 answered (leaves w n f) = (_, refl)
-answered (is-processed w n c l e) = (_, refl)
+answered (completes w n c l e) = (_, refl)
 answered (cancels w id e) = (_, refl)
 answered (moves g) = (_, refl)
 answered (ends g) = (_, refl)
@@ -62,7 +62,7 @@ refused-by-the-first s store call number = (
   step-cases (λ o. o .reply ≡ refused number → firstRefusal (refusals s store call) ≡ some number) s store call
       (λ n r e. let same : n ≡ number = cc in r ∙ ap some same)
       λ a e. absurd (not-refused number (accepted-is s store call a) e),
-  λ e. ap (λ (r : Option ℕ). settled s store r (act s store call) .reply) e,
+  λ e. ap (λ (r : Option ℕ). unlessRefused s store r (act s store call) .reply) e,
 )
 
 -- ---- a list of calls

@@ -8,6 +8,11 @@ use clusters::table::Found;
 use clusters::table::Table;
 use clusters::table::find;
 use clusters::version::above;
+use refusal::CLUSTER_ABSENT;
+use refusal::CLUSTER_PRESENT;
+use refusal::CLUSTER_TOUCHED;
+use refusal::OLD_VERSION;
+use refusal::TABLE_FULL;
 ghost use mathlib.Core.Path.{_≡_};
 ghost use mathlib.Core.List.{List, []};
 ghost use Prim.Native.Nat.{_≤_};
@@ -58,10 +63,10 @@ fn install_refusal(t: Table, c: Cluster) -> u32
     ensures { λ r. ⌜ r ≡ actionRefusal (viewTable t) [] (install (viewCluster c)) ⌝ }
 {
     let Found::Nothing = find(t, c.part) else {
-        return 12;
+        return CLUSTER_PRESENT;
     };
     if t.count >= CLUSTERS_MOST {
-        return 15;
+        return TABLE_FULL;
     }
     0
 }
@@ -72,11 +77,11 @@ fn update_refusal(t: Table, c: Cluster) -> u32
     ensures { λ r. ⌜ r ≡ actionRefusal (viewTable t) [] (update (viewCluster c)) ⌝ }
 {
     let Found::At(i) = find(t, c.part) else {
-        return 13;
+        return CLUSTER_ABSENT;
     };
     let staged = t.clusters[i];
     if !above(c.version, staged.version) {
-        return 14;
+        return OLD_VERSION;
     }
     0
 }
@@ -87,7 +92,7 @@ fn remove_refusal(t: Table, part: u32) -> u32
     ensures { λ r. ⌜ r ≡ actionRefusal (viewTable t) [] (remove part) ⌝ }
 {
     let Found::At(i) = find(t, part) else {
-        return 13;
+        return CLUSTER_ABSENT;
     };
     0
 }
@@ -99,7 +104,7 @@ pub fn action_refusal(t: Table, in_list: bool, a: Action) -> u32
     ensures { λ r. ⌜ ((listed : List PlainAction) → in_list ≡ touched (actionPart (viewAction a)) listed → r ≡ actionRefusal (viewTable t) listed (viewAction a)) ⌝ }
 {
     if in_list {
-        return 11;
+        return CLUSTER_TOUCHED;
     }
     let change = a.change;
     let c = a.cluster;

@@ -1,8 +1,8 @@
 // How the text in a package's area is refused.
 use manifest::package::PackageAnswer;
 use manifest::package::read_package;
-use state::refusal::INVALID_MANIFEST;
-use state::refusal::PACKAGE_INCONSISTENT;
+use refusal::INVALID_MANIFEST;
+use refusal::PACKAGE_INCONSISTENT;
 ghost use mathlib.Core.Path.{_≡_};
 ghost use Rattle.manifest.specs.Package.{readPackage};
 ghost use Rattle.manifest.specs.Answer.{answerNumber, refusalNumber};

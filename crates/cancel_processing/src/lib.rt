@@ -1,6 +1,9 @@
 // Cancel: the cancel is noted, and the next Work ends the processing by it.
 use package_processing::processing_place;
 use package_processing::with_work;
+use refusal::BAD_STATE;
+use refusal::INVALID_TRANSFER_ID;
+use refusal::OPERATION_NOT_PERMITTED;
 use soundness::sound::sound;
 use state::answer::Answer;
 use state::answer::Answered;
@@ -8,9 +11,6 @@ use state::answer::answer_with;
 use state::answer::refused;
 use state::permissions::CANCEL;
 use state::permissions::allowed;
-use state::refusal::BAD_STATE;
-use state::refusal::INVALID_TRANSFER_ID;
-use state::refusal::OPERATION_NOT_PERMITTED;
 use state::state::State;
 ghost use mathlib.Core.Path.{_≡_};
 ghost use mathlib.Core.Bool.{true};

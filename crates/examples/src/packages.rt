@@ -8,6 +8,8 @@ use cases::show;
 use manifest::package::PackageAnswer;
 use manifest::package::PackageRead;
 use manifest::package::read_package;
+use refusal::INVALID_MANIFEST;
+use refusal::PACKAGE_INCONSISTENT;
 use text::version::Version;
 
 fn show_change(change: Change) {
@@ -57,8 +59,8 @@ fn refusal_of(answer: PackageAnswer) -> u32
     ensures { λ r. ⌜ r ≡ answerNumber answer ⌝ }
 {
     match answer {
-        PackageAnswer::IllFormed => 9,
-        PackageAnswer::Inconsistent => 10,
+        PackageAnswer::IllFormed => INVALID_MANIFEST,
+        PackageAnswer::Inconsistent => PACKAGE_INCONSISTENT,
         PackageAnswer::Consistent => 0,
     }
 }

@@ -2,12 +2,12 @@
 // 16,777,216 bytes, and a state that it gives back when refused. It fills the store with 0 and gives the state Idle."
 use cluster_list::read::ListAnswer;
 use cluster_list::read::read_list;
+use refusal::BAD_LOAD;
 use state::answer::Answer;
 use state::answer::Answered;
 use state::answer::answer_with;
 use state::answer::refused;
 use state::limits::STORE_MOST;
-use state::refusal::BAD_LOAD;
 use state::state::State;
 use state::state::loaded_state;
 ghost use mathlib.Core.Path.{_≡_};

@@ -2,6 +2,7 @@
 use cancel_processing::cancel_on_sound;
 use delete_transfer::delete_transfer_on_sound;
 use process_package::process_on_sound;
+use refusal::BAD_STATE;
 use report::report_on_sound;
 use request::Request;
 use session_calls::activate::activate_on_sound;
@@ -11,7 +12,6 @@ use session_calls::rollback::rollback_on_sound;
 use soundness::sound::sound;
 use state::answer::Answered;
 use state::answer::refused;
-use state::refusal::BAD_STATE;
 use state::state::State;
 use transfer_data::transfer_data_on_sound;
 use transfer_exit::transfer_exit_on_sound;

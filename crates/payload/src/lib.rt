@@ -3,8 +3,8 @@
 pub mod place;
 
 use crate::place::payload_place;
+use refusal::BAD_STATE;
 use soundness::sound::sound;
-use state::refusal::BAD_STATE;
 use state::state::State;
 ghost use mathlib.Core.Path.{_≡_};
 ghost use mathlib.Core.Bool.{true};

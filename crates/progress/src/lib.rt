@@ -1,9 +1,9 @@
 // Progress: "Progress is floor(100 × done / payload), 100 for payload 0, and 0 outside Processing."
 use reading_reply::ReadingReply;
+use refusal::BAD_STATE;
 use soundness::sound::sound;
 use state::phase::PROCESSING;
 use state::phase::phase_number;
-use state::refusal::BAD_STATE;
 use state::state::State;
 use state::work::Work;
 ghost use mathlib.Core.Path.{_≡_};

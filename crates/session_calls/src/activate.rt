@@ -1,11 +1,11 @@
 // Activate: Ready to Activating.
 use crate::moves::move_to;
+use refusal::BAD_STATE;
 use soundness::sound::sound;
 use state::answer::Answered;
 use state::answer::refused;
 use state::permissions::ACTIVATE;
 use state::phase::Phase;
-use state::refusal::BAD_STATE;
 use state::state::State;
 ghost use mathlib.Core.Path.{_≡_};
 ghost use mathlib.Core.Bool.{true};

@@ -1,11 +1,11 @@
 // What the four calls share: the permission, and the manager's state moved.
+use refusal::OPERATION_NOT_PERMITTED;
 use state::answer::Answer;
 use state::answer::Answered;
 use state::answer::answer_with;
 use state::answer::refused;
 use state::permissions::allowed;
 use state::phase::Phase;
-use state::refusal::OPERATION_NOT_PERMITTED;
 use state::state::State;
 use state::state::in_phase;
 ghost use mathlib.Core.Path.{_≡_};

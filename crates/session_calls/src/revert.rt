@@ -1,12 +1,12 @@
 // Revert: Ready to CleaningUp.
 use crate::moves::move_to;
+use refusal::BAD_STATE;
 use soundness::sound::sound;
 use state::answer::Answered;
 use state::answer::refused;
 use state::permissions::REVERT;
 use state::phase::CleanUpOrigin;
 use state::phase::Phase;
-use state::refusal::BAD_STATE;
 use state::state::State;
 ghost use mathlib.Core.Path.{_≡_};
 ghost use mathlib.Core.Bool.{true};

@@ -1,5 +1,6 @@
 // Rollback: Verifying or Activated to RollingBack, which keeps where it came from.
 use crate::moves::move_to;
+use refusal::BAD_STATE;
 use soundness::sound::sound;
 use state::answer::Answered;
 use state::answer::refused;
@@ -8,7 +9,6 @@ use state::phase::Phase;
 use state::phase::RollbackOrigin;
 use state::phase::VERIFYING;
 use state::phase::phase_number;
-use state::refusal::BAD_STATE;
 use state::state::State;
 ghost use mathlib.Core.Path.{_≡_};
 ghost use mathlib.Core.Bool.{true};

@@ -4,7 +4,6 @@ pub mod limits;
 pub mod package;
 pub mod permissions;
 pub mod phase;
-pub mod refusal;
 pub mod session;
 pub mod state;
 pub mod transfers;

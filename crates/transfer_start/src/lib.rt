@@ -1,5 +1,11 @@
 // TransferStart: a package of a size is begun behind the others.
 use areas::sizes::free_bytes;
+use refusal::BAD_STATE;
+use refusal::IDS_SPENT;
+use refusal::INCORRECT_SIZE;
+use refusal::INSUFFICIENT_MEMORY;
+use refusal::OPERATION_NOT_PERMITTED;
+use refusal::TRANSFERS_FULL;
 use soundness::sound::sound;
 use state::answer::Answer;
 use state::answer::Answered;
@@ -9,12 +15,6 @@ use state::limits::ID_MOST;
 use state::limits::PACKAGES_MOST;
 use state::permissions::TRANSFER_START;
 use state::permissions::allowed;
-use state::refusal::BAD_STATE;
-use state::refusal::IDS_SPENT;
-use state::refusal::INCORRECT_SIZE;
-use state::refusal::INSUFFICIENT_MEMORY;
-use state::refusal::OPERATION_NOT_PERMITTED;
-use state::refusal::TRANSFERS_FULL;
 use state::state::State;
 use state::state::with_transfers;
 use state::transfers::with_new_package;

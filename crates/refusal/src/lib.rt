@@ -1,4 +1,5 @@
-// The numbers of the refusals, in document 01's order. A refusal is its number alone.
+// The numbers of the refusals, in document 01's order: "a refusal is the number alone". 19 adds a length and is therefore a case of the
+// reading calls' reply.
 pub const BAD_STATE: u32 = 1;
 
 pub const SERVICE_BUSY: u32 = 2;
@@ -34,7 +35,5 @@ pub const TRANSFERS_FULL: u32 = 16;
 pub const INSUFFICIENT_MEMORY: u32 = 17;
 
 pub const IDS_SPENT: u32 = 18;
-
-pub const SHORT_BUFFER: u32 = 19;
 
 pub const BAD_LOAD: u32 = 20;

@@ -4,7 +4,7 @@ use state::answer::Answer;
 use state::answer::Answered;
 use state::state::State;
 
-fn show_answer(answer: Answer) {
+fn show_named(answer: Answer) {
     match answer {
         Answer::Id(id) => {
             show::bytes(b" id ");
@@ -29,10 +29,9 @@ fn show_answer(answer: Answer) {
 }
 
 // Prints the answer and gives the state.
-pub fn shown(r: Answered) -> State {
+pub fn show_answer(r: Answered) -> State {
     let answer = r.answer;
-    show_answer(answer);
-    show::byte(b'\n');
+    show_named(answer);
     let s = r.state;
     s
 }

@@ -1,17 +1,60 @@
-// A case is a call, or a TransferStart on the state changed to one that is not sound, or shows the store.
-use crate::answers::shown;
-use crate::package_list::show_packages;
+// A case is a call, or each of the twelve on the state changed to one that is not sound, or shows the store.
+use crate::answers::show_answer;
 use crate::unsound::made_unsound;
+use cancel_processing::cancel;
 use cases::case::field;
 use cases::case::kind_of;
 use cases::show;
 use cases::values::number_of;
 use delete_transfer::delete_transfer;
 use load::load;
+use process_package::process;
+use report::report;
+use session_calls::activate::activate;
+use session_calls::finish::finish;
+use session_calls::revert::revert;
+use session_calls::rollback::rollback;
 use state::state::State;
 use transfer_data::transfer_data;
 use transfer_exit::transfer_exit;
 use transfer_start::transfer_start;
+use work_on_payload::work;
+
+// A call that is no transfer call, by its place among the sentences.
+fn make_session_call(s: State, store: &mut [u8], first: u32, kind: usize) -> State {
+    match kind {
+        5 => show_answer(process(s, store, first)),
+        6 => show_answer(work(s, store, first)),
+        7 => show_answer(cancel(s, store, first)),
+        8 => show_answer(revert(s, store)),
+        9 => show_answer(activate(s, store)),
+        10 => show_answer(rollback(s, store)),
+        11 => show_answer(finish(s, store)),
+        _ => show_answer(report(s, store, kind == 12)),
+    }
+}
+
+// A call by its place among the sentences.
+fn make_call(s: State, store: &mut [u8], case: &[u8], kind: usize) -> State {
+    let first = number_of(field(case, 1));
+    match kind {
+        0 => show_answer(load(s, field(case, 2), first, store)),
+        1 => show_answer(transfer_start(s, store, first)),
+        2 => show_answer(transfer_data(s, store, first, number_of(field(case, 2)), field(case, 3))),
+        3 => show_answer(transfer_exit(s, store, first)),
+        4 => show_answer(delete_transfer(s, store, first)),
+        _ => make_session_call(s, store, first, kind),
+    }
+}
+
+// Each of the twelve calls on a state that is not sound, in the order of the sentences.
+fn make_each_call(s: State, store: &mut [u8], case: &[u8]) {
+    let mut kind = 1;
+    while kind < 14 {
+        make_call(s, store, case, kind);
+        kind += 1;
+    }
+}
 
 // The bytes of a payload and the answer of the call beside Payload.
 fn show_payload(s: State, store: &[u8], id: u32) {
@@ -19,7 +62,6 @@ fn show_payload(s: State, store: &[u8], id: u32) {
     show::bytes(payload::payload(s, store, id));
     show::bytes(b", check ");
     show::number(payload::payload_check(s, store, id));
-    show::byte(b'\n');
 }
 
 fn show_store(store: &[u8]) {
@@ -33,42 +75,30 @@ fn show_store(store: &[u8]) {
         }
         i += 1;
     }
-    show::byte(b'\n');
 }
 
-// A case that shows and changes nothing.
-fn show_case(s: State, store: &[u8], case: &[u8], kind: usize) {
-    let first = number_of(field(case, 1));
+// A case that leaves the state as it is.
+fn show_case(s: State, store: &mut [u8], case: &[u8], kind: usize) {
     match kind {
-        5 => show_payload(s, store, first),
-        6 => show_store(store),
-        7 => {
-            shown(transfer_start(made_unsound(s, number_of(field(case, 2))), store, 1));
-        }
-        8 => show_packages(s, store, first as usize),
-        _ => show::bytes(b" no such kind of case\n"),
+        14 => show_payload(s, store, number_of(field(case, 1))),
+        15 => show_store(store),
+        16 => make_each_call(made_unsound(s, number_of(field(case, 2))), store, case),
+        _ => show::bytes(b" no such kind of case"),
     }
 }
 
 // A case by its sentence, printed before what it gives.
-pub fn make_call(s: State, store: &mut [u8], case: &[u8]) -> State {
+pub fn make_case(s: State, store: &mut [u8], case: &[u8]) -> State {
     let sentence = field(case, 0);
     show::with_fields(sentence, case);
     let kind = kind_of(
         sentence,
-        b"load, first id %:;start %:;data % %:;exit %:;delete %:;payload %:;store:;unsound, %:;packages, room %:;",
-        9,
+        b"load, first id %:;start %:;data % %:;exit %:;delete %:;process %:;work %:;cancel %:;revert:;activate:;rollback:;finish:;report good:;report bad:;payload %:;store:;unsound, %:;",
+        17,
     );
-    let first = number_of(field(case, 1));
-    match kind {
-        0 => shown(load(s, field(case, 2), first, store)),
-        1 => shown(transfer_start(s, store, first)),
-        2 => shown(transfer_data(s, store, first, number_of(field(case, 2)), field(case, 3))),
-        3 => shown(transfer_exit(s, store, first)),
-        4 => shown(delete_transfer(s, store, first)),
-        _ => {
-            show_case(s, store, case, kind);
-            s
-        }
+    if kind < 14 {
+        return make_call(s, store, case, kind);
     }
+    show_case(s, store, case, kind);
+    s
 }

@@ -2,10 +2,10 @@
 // written from document 01.
 mod answers;
 mod calls;
-mod package_list;
 mod unsound;
 
-use crate::calls::make_call;
+use crate::calls::make_case;
+use cases::show;
 use clusters::table::empty_table;
 use libc::STDIN_FILENO;
 use state::state::loaded_state;
@@ -17,7 +17,8 @@ fn make_calls(input: &[u8], store: &mut [u8]) {
     while at < input.len() {
         let from = at + 1;
         let end = bytes::scan::find(input, from, input.len(), b'#');
-        s = make_call(s, store, &input[from..end]);
+        s = make_case(s, store, &input[from..end]);
+        show::byte(b'\n');
         at = end;
     }
 }

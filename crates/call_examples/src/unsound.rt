@@ -123,11 +123,13 @@ fn wrong_parts(s: State, change: u32) -> State {
 
 // The state with the change of a number.
 pub fn made_unsound(s: State, change: u32) -> State {
-    if change == 20 {
-        return in_phase(s, Phase::Ready);
+    match change {
+        20 => in_phase(s, Phase::Ready),
+        21 => in_phase(s, Phase::Processing),
+        22 => in_phase(s, Phase::Activating),
+        23 => in_phase(s, Phase::Verifying),
+        24 => in_phase(s, Phase::Activated),
+        25 => in_phase(s, Phase::RolledBack),
+        _ => wrong_parts(s, change),
     }
-    if change == 21 {
-        return in_phase(s, Phase::Processing);
-    }
-    wrong_parts(s, change)
 }

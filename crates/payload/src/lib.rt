@@ -1,6 +1,6 @@
 // Payload: "Payload(id) returns the payload's part of the store itself, empty when refused; a call beside it with the same checks gives
 // the refusal number, or 0."
-pub mod place;
+mod place;
 
 use crate::place::payload_place;
 use refusal::BAD_STATE;
@@ -17,7 +17,7 @@ ghost use Rattle.payload.specs.Part.{PartAt};
 ghost use Rattle.payload.specs.Place.{place, placeOnSound};
 
 // Payload of a state that is known to be sound.
-pub fn payload_on_sound(s: State, store: &[u8], id: u32) -> &[u8]
+fn payload_on_sound(s: State, store: &[u8], id: u32) -> &[u8]
     requires { ⌜ soundFor (viewState s) (length (now store)) ≡ true ⌝ }
     ensures { λ r. ⌜ PartAt (store .entry) (placeOnSound (viewState s) (now (store .entry)) id) r ⌝ }
 {
@@ -29,7 +29,7 @@ pub fn payload_on_sound(s: State, store: &[u8], id: u32) -> &[u8]
 }
 
 // The call beside it, of a state that is known to be sound.
-pub fn payload_check_on_sound(s: State, store: &[u8], id: u32) -> u32
+fn payload_check_on_sound(s: State, store: &[u8], id: u32) -> u32
     requires { ⌜ soundFor (viewState s) (length (now store)) ≡ true ⌝ }
     ensures { λ r. ⌜ r ≡ numberOrZero (firstRefusal (furtherPayloadRefusals (viewState s) (now (store .entry)) id)) ⌝ }
 {

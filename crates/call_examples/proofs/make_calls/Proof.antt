@@ -27,17 +27,20 @@ add-from c = search needs
 find-requires : tie.Need-find-requires Inv-loop μ-loop
 find-requires c κs = search needs
 
-sub-make-call : tie.Need-sub-make-call Inv-loop μ-loop
-sub-make-call c = search needs
+sub-make-case : tie.Need-sub-make-case Inv-loop μ-loop
+sub-make-case c = search needs
 
-part-make-call-start : tie.Need-part-make-call-start Inv-loop μ-loop
-part-make-call-start c = search needs
+part-make-case-start : tie.Need-part-make-case-start Inv-loop μ-loop
+part-make-case-start c = search needs
 
-part-make-call-end : tie.Need-part-make-call-end Inv-loop μ-loop
-part-make-call-end c = search needs
+part-make-case-end : tie.Need-part-make-case-end Inv-loop μ-loop
+part-make-case-end c = search needs
 
-make-call-requires : tie.Need-make-call-requires Inv-loop μ-loop
-make-call-requires c κs = search needs
+make-case-requires : tie.Need-make-case-requires Inv-loop μ-loop
+make-case-requires c κs = search needs
+
+byte-requires : tie.Need-byte-requires Inv-loop μ-loop
+byte-requires c κs = search needs
 
 loop-less : tie.Need-loop-less Inv-loop μ-loop
 loop-less c = search needs
@@ -62,10 +65,11 @@ make-calls-spec =
     loop-holds
     add-from
     find-requires
-    sub-make-call
-    part-make-call-start
-    part-make-call-end
-    make-call-requires
+    sub-make-case
+    part-make-case-start
+    part-make-case-end
+    make-case-requires
+    byte-requires
     loop-less
     loop-again
     same-length

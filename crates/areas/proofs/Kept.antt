@@ -32,7 +32,7 @@ module _ (deletion : Deletion) where
       let ih = kept-append ps qs in
       bool-cases (keeps deletion (viewPackage p)) (λ k. rw k (ap (λ (l : List Package). p ∷ l) ih)) λ k. rw k ih
 
-  length-kept : (ps : List Package) → length (kept deletion ps) ≤ length ps
+  pub length-kept : (ps : List Package) → length (kept deletion ps) ≤ length ps
   unfolding kept
   length-kept [] = omega arith
   length-kept (p ∷ ps) =

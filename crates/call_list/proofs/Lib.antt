@@ -1,5 +1,6 @@
 pub mod RunLaws
 pub mod WithoutRefused
+pub mod DemandLaws
 pub mod RowCall
 pub mod ListLaws
 pub mod RunWays

@@ -3,127 +3,140 @@
 use Prim.Native.Nat.{ℕ, _*_, _/_, _≤_, _<_}
 use mathlib.Core.Path.{_≡_, refl, sym, ap, subst, _∙_}
 use mathlib.Core.Bool.{Bool, true, false, true≢false}
-use mathlib.Core.List.{List, map}
-use mathlib.Core.Option.{Option, none, some}
+use mathlib.Core.List.{List, [], append-nil}
+use mathlib.Core.Option.{Option, none, some, Option·some-injective}
 use native.Mathlib.Omega.{arith}
 use lib.ListN.{length}
 use borrow.Author.Tests.{le-leb, lt-leb}
 use Rattle.base.proofs.Tests.{clash, none-some}
+use Rattle.cluster_list.specs.Read.{readList}
 use Rattle.model.specs.State.{Store}
-use Rattle.model.specs.Calls.{Call, done, accepted}
+use Rattle.model.specs.Calls.{Call, done, Reply, refused, accepted}
 use Rattle.model.specs.Step as step
 use Rattle.model.specs.Load as model
-use Rattle.model.specs.Load.{isBadLoad}
+use Rattle.model.specs.Load.{tableOrEmpty, isBadLoad}
 use Rattle.model.specs.Run as runs
+use Rattle.model.specs.Journal.{opened, journal}
+use Rattle.model.specs.Invariant.{Invariant}
+use Rattle.model.specs.Demand3.{AgreesWith}
+use Rattle.model.proofs.soundness.LoadSound.{load-refused}
 use Rattle.model.proofs.journal.Opened.{load-invariant}
-use Rattle.model.proofs.journal.Demand3.{demand3-from}
+use Rattle.model.proofs.journal.Demand3.{list-keeps}
 use Rattle.state.specs.declared.state.State.{State}
 use Rattle.state.specs.declared.answer.Answer.the-variants.{Done}
 use Rattle.state.specs.declared.answer.Answered.{Answered}
 use Rattle.state.specs.View.{viewState}
-use Rattle.state.specs.Outcome.{Outcome, outcome, answered, refusedBy, replyOf, viewOutcome}
+use Rattle.state.specs.Outcome.{Outcome, outcome, refusedBy, replyOf, viewOutcome}
 use Rattle.load.specs.Exact.{load}
 use Rattle.load.proofs.Told.{IsOther, bad-load, told-good, told-bad}
 use Rattle.call_rows.specs.Rows.{decoded, isGiven}
 use Rattle.call_rows.proofs.RowListLaws.{six-for-each}
 use Rattle.manager.specs.Accepts.{exactStep}
-use Rattle.call_list.specs.declared.loaded.LoadedAnswer.the-variants as answers
-use Rattle.call_list.specs.declared.loaded.LoadedRan.{LoadedRan}
-use Rattle.call_list.specs.Run.{Made, Run, ran, runBy, acceptedOnly, callsOf, viewMade, viewRun}
-use Rattle.call_list.specs.Answers.{answersAfter}
-use Rattle.call_list.specs.WholeList.{MadeFrom}
-use Rattle.call_list.specs.Loaded.{loadedWith, loadedEnded, loadedListEnds, DemandMet}
+use Rattle.call_list.specs.declared.ListReply.the-variants.{Made, BadLoad, Malformed, ShortAnswers}
+use Rattle.call_list.specs.declared.RepliedList.{RepliedList}
+use Rattle.call_list.specs.Run.{Run, ran, runBy, viewRun}
+use Rattle.call_list.specs.Answers.{wordsOf}
+use Rattle.call_list.specs.Replies.{loadReply}
+use Rattle.call_list.specs.WholeList.{replied, listOutcome, outcomeOf, MadeFrom}
+use Rattle.call_list.specs.DemandOfCalls.{DemandOfCalls}
+use Rattle.call_list.specs.Loaded.{loadAndRunOutcome, journalOf, DemandMet}
 use Rattle.call_list.proofs.RunWays.{given-cases}
-use Rattle.call_list.proofs.WithoutRefused.{same-without-refused}
+use Rattle.call_list.proofs.DemandLaws.{demand-of-calls}
 
--- ---- the two clauses
+-- ---- the three clauses
 
 module _ (s : State) (list : List ℕ) (first : ℕ) (store : Store) (words : List ℕ) where
-  abbrev Met : Option (List Call) → LoadedRan → Store → List ℕ → Type 0
-  Met o r store′ words′ =
-      (calls : List Call) → o ≡ some calls → r .answer ≡ answers.Made
-      → DemandMet s list first store words calls (r .state) store′ words′
+  abbrev start : step.Outcome
+  start = model.load (viewState s) list first store
 
-  abbrev Both : Option (List Call) → LoadedRan → Store → List ℕ → Type 0
-  Both o r store′ words′ = (loadedEnded r store′ words′ ≡ loadedListEnds s list first store words o) × Met o r store′ words′
+  abbrev Said : RepliedList → Type 0
+  Said r = (reply : Reply) → loadReply (r .reply) ≡ some reply → start .reply ≡ reply
 
-  malformed : (o : Option (List Call)) → isGiven o ≡ false → Both o (loadedWith answers.Malformed s) store words
-  unfolding loadedListEnds
-  malformed none e = (refl, λ calls is. none-some is)
+  abbrev Met : Option (List Call) → RepliedList → Store → List ℕ → Type 0
+  Met given r store′ words′ =
+      (calls : List Call) → given ≡ some calls → r .reply ≡ Made → DemandMet s list first store words calls (r .state) store′ words′
+
+  abbrev Clauses : Option (List Call) → RepliedList → Store → List ℕ → Type 0
+  Clauses given r store′ words′ =
+      (listOutcome r store′ words′ ≡ loadAndRunOutcome s list first store words given) × (Said r × Met given r store′ words′)
+
+  malformed : (given : Option (List Call)) → isGiven given ≡ false → Clauses given (replied Malformed s) store words
+  unfolding loadAndRunOutcome runBy wordsOf
+  malformed none e = (refl, (λ reply is. none-some is, λ calls is. none-some is))
   malformed (some calls) e = clash refl e
 
-  short : (calls : List Call) → length words < 2 * length calls → Both (some calls) (loadedWith answers.ShortAnswers s) store words
-  unfolding loadedListEnds
-  short calls h = let no = lt-leb (2 * length calls) (length words) h in (rw no, λ others is made. let z : _≡_ {A = Bool} true false = cc in absurd (true≢false z))
+  short : (calls : List Call) → length words < 2 * length calls → Clauses (some calls) (replied ShortAnswers s) store words
+  unfolding loadAndRunOutcome runBy wordsOf
+  short calls h =
+      let no = lt-leb (2 * length calls) (length words) h in
+      (rw no, (λ reply is. none-some is, λ others is made. let z : _≡_ {A = Bool} true false = cc in absurd (true≢false z)))
 
   -- Load as it was made: its outcome o
   module _ (o : Outcome) (exact : o ≡ load s list first store) where
     bad : (calls : List Call) → 2 * length calls ≤ length words → isBadLoad list first store ≡ true
-        → Both (some calls) (loadedWith answers.BadLoad (o .answered .state)) (o .store) words
-    unfolding loadedListEnds
+        → Clauses (some calls) (replied BadLoad (o .answered .state)) (o .store) words
+    unfolding loadAndRunOutcome runBy wordsOf
     bad calls h e =
-        let yes = le-leb (2 * length calls) (length words) h in
-        let is : o ≡ outcome (refusedBy s 20) store = exact ∙ bad-load s list first store e in (
-          ap (λ (z : Outcome). loadedEnded (loadedWith answers.BadLoad (z .answered .state)) (z .store) words) is ∙ rw (yes, e),
-          λ others same made. let z : _≡_ {A = Bool} true false = cc in absurd (true≢false z),
+        let yes = le-leb (2 * length calls) (length words) h in (
+          ap (λ (z : Outcome). listOutcome (replied BadLoad (z .answered .state)) (z .store) words) exact ∙ rw (yes, e),
+          (
+            λ reply is. load-refused (viewState s) list first store 20 .1 (refl, e) ∙ Option·some-injective _ _ is,
+            λ others same made. let z : _≡_ {A = Bool} true false = cc in absurd (true≢false z),
+          ),
         )
 
     module _ (meaning : viewOutcome o ≡ model.load (viewState s) list first store) (good : o .answered .answer ≡ Done)
         (calls : List Call) (s′ : State) (store′ : Store) (words′ : List ℕ)
         (m : MadeFrom (o .answered .state) (o .store) words calls s′ store′ words′) where
-      abbrev start : step.Outcome
-      start = model.load (viewState s) list first store
-
       is-loaded : start .reply ≡ accepted done
       is-loaded = ap (λ (z : step.Outcome). z .reply) (sym meaning) ∙ ap replyOf good
 
-      ran-as : runs.run (start .state) (start .store) calls ≡ viewRun (ran (m .made) s′ store′)
-      ran-as = ap (λ (z : step.Outcome). runs.run (z .state) (z .store) calls) (sym meaning) ∙ sym (m .meaning)
+      demand : DemandOfCalls s list first store calls
+      demand = demand-of-calls s list first store is-loaded calls
 
-      same : runBy exactStep (load s list first store .answered .state) (load s list first store .store) (callsOf (acceptedOnly (m .made)))
-          ≡ ran (acceptedOnly (m .made)) s′ store′
-      same =
-          ap (λ (z : Outcome). runBy exactStep (z .answered .state) (z .store) (callsOf (acceptedOnly (m .made)))) (sym exact)
-          ∙ subst
-          (λ (r : Run). runBy exactStep (o .answered .state) (o .store) (callsOf (acceptedOnly (r .made))) ≡ ran (acceptedOnly (r .made)) (r .state) (r .store))
-          (m .exact) (same-without-refused (o .answered .state) (o .store) calls)
+      ran-as : runBy exactStep (load s list first store .answered .state) (load s list first store .store) calls ≡ ran (m .made) s′ store′
+      ran-as = ap (λ (z : Outcome). runBy exactStep (z .answered .state) (z .store) calls) (sym exact) ∙ m .exact
+
+      -- what is given back, as the model has it
+      given-back : runs.run (start .state) (start .store) calls ≡ viewRun (ran (m .made) s′ store′)
+      given-back = sym (demand .seenAs) ∙ ap viewRun ran-as
 
       met : DemandMet s list first store words calls s′ store′ words′
       met =
+          let j = opened (tableOrEmpty (readList list)) in
           record {
-            loaded = is-loaded;
+            demand = demand;
             made = m .made;
             ranAs = ran-as;
             answered = m .written;
-            demand3 = demand3-from _ _ _ (load-invariant (viewState s) list first store is-loaded) calls;
-            withoutRefused = same;
+            agrees =
+                subst (λ (r : runs.Run). AgreesWith (journal j (r .made)) (r .state) (r .store)) given-back
+                (demand .demand3 .afterEach calls [] (append-nil calls));
+            invariant =
+                subst (λ (r : runs.Run). Invariant (journal j (r .made)) (r .state) (r .store)) given-back
+                (list-keeps j (start .state) (start .store) calls (load-invariant (viewState s) list first store is-loaded));
           }
 
       ends : 2 * length calls ≤ length words → isBadLoad list first store ≡ false
-          → loadedEnded (loadedWith answers.Made s′) store′ words′ ≡ loadedListEnds s list first store words (some calls)
-      unfolding loadedListEnds
+          → listOutcome (replied Made s′) store′ words′ ≡ loadAndRunOutcome s list first store words (some calls)
+      unfolding loadAndRunOutcome
       ends h e =
           let yes = le-leb (2 * length calls) (length words) h in
           rw (yes, e)
-          (ap (loadedEnded (loadedWith answers.Made s′) store′) (m .written)
-          ∙ ap (λ (r : Run). loadedEnded (loadedWith answers.Made (r .state)) (r .store) (answersAfter (map viewMade (r .made)) words)) (sym (m .exact))
-          ∙ ap
-          (λ (z : Outcome). (let r = runBy exactStep (z .answered .state) (z .store) calls in
-          loadedEnded (loadedWith answers.Made (r .state)) (r .store) (answersAfter (map viewMade (r .made)) words)))
-          exact)
+          (ap (listOutcome (replied Made s′) store′) (m .written) ∙ ap (λ (r : Run). outcomeOf Made r words) (sym ran-as))
 
 -- ---- what `load_and_run` learns on its way
 
-module _ (s : State) (list : List ℕ) (first : ℕ) (store : Store) (words rows bytes : List ℕ) (r : LoadedRan) where
-  pub ends-malformed : isGiven (decoded rows bytes) ≡ false → r ≡ loadedWith answers.Malformed s
-      → Both s list first store words (decoded rows bytes) r store words
+module _ (s : State) (list : List ℕ) (first : ℕ) (store : Store) (words rows bytes : List ℕ) (r : RepliedList) where
+  pub ends-malformed : isGiven (decoded rows bytes) ≡ false → r ≡ replied Malformed s
+      → Clauses s list first store words (decoded rows bytes) r store words
   ends-malformed g is = rw is (malformed s list first store words (decoded rows bytes) g)
 
-  pub ends-short : isGiven (decoded rows bytes) ≡ true → length words < length rows / 3 → r ≡ loadedWith answers.ShortAnswers s
-      → Both s list first store words (decoded rows bytes) r store words
+  pub ends-short : isGiven (decoded rows bytes) ≡ true → length words < length rows / 3 → r ≡ replied ShortAnswers s
+      → Clauses s list first store words (decoded rows bytes) r store words
   ends-short g h is =
       rw is
-      (given-cases (λ (o : Option (List Call)). Both s list first store words o (loadedWith answers.ShortAnswers s) store words) (decoded rows bytes) g
+      (given-cases (λ (o : Option (List Call)). Clauses s list first store words o (replied ShortAnswers s) store words) (decoded rows bytes) g
       λ calls e. short s list first store words calls (omega (arith, six-for-each rows bytes calls e)))
 
   module _ (loaded : Answered) (store′ : Store) (exact : outcome loaded store′ ≡ load s list first store)
@@ -131,20 +144,23 @@ module _ (s : State) (list : List ℕ) (first : ℕ) (store : Store) (words rows
     abbrev o : Outcome
     o = outcome loaded store′
 
-    pub ends-bad : IsOther (loaded .answer) → r ≡ loadedWith answers.BadLoad (loaded .state)
-        → Both s list first store words (decoded rows bytes) r store′ words
+    pub ends-bad : IsOther (loaded .answer) → r ≡ replied BadLoad (loaded .state)
+        → Clauses s list first store words (decoded rows bytes) r store′ words
     ends-bad d is =
         rw is
-        (given-cases (λ (z : Option (List Call)). Both s list first store words z (loadedWith answers.BadLoad (loaded .state)) store′ words) (decoded rows bytes) g
+        (given-cases (λ (z : Option (List Call)). Clauses s list first store words z (replied BadLoad (loaded .state)) store′ words) (decoded rows bytes) g
         λ calls e. bad s list first store words o exact calls (omega (arith, six-for-each rows bytes calls e)) (told-bad s list first store o exact d))
 
     pub ends-made : viewOutcome (outcome loaded store′) ≡ model.load (viewState s) list first store → loaded .answer ≡ Done
-        → (s′ : State) (store″ : Store) (words′ : List ℕ) → r ≡ loadedWith answers.Made s′
+        → (s′ : State) (store″ : Store) (words′ : List ℕ) → r ≡ replied Made s′
         → ((calls : List Call) → decoded rows bytes ≡ some calls → MadeFrom (loaded .state) store′ words calls s′ store″ words′)
-        → Both s list first store words (decoded rows bytes) r store″ words′
+        → Clauses s list first store words (decoded rows bytes) r store″ words′
     ends-made meaning d s′ store″ words′ is m =
         rw is (
-          given-cases (λ (z : Option (List Call)). loadedEnded (loadedWith answers.Made s′) store″ words′ ≡ loadedListEnds s list first store words z) (decoded rows bytes) g
+          given-cases (λ (z : Option (List Call)). listOutcome (replied Made s′) store″ words′ ≡ loadAndRunOutcome s list first store words z) (decoded rows bytes) g
               (λ calls e. ends s list first store words o exact meaning d calls s′ store″ words′ (m calls e) (omega (arith, six-for-each rows bytes calls e)) (told-good s list first store o exact d)),
-          λ calls e made. met s list first store words o exact meaning d calls s′ store″ words′ (m calls e),
+          (
+            λ reply said. ap (λ (z : step.Outcome). z .reply) (sym meaning) ∙ ap replyOf d ∙ Option·some-injective _ _ said,
+            λ calls e made. met s list first store words o exact meaning d calls s′ store″ words′ (m calls e),
+          ),
         )

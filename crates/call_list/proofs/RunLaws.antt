@@ -4,15 +4,15 @@ use mathlib.Core.Path.{_≡_, refl, sym, ap, _∙_}
 use mathlib.Core.List.{List, [], _∷_, _++_, map, map-append}
 use Rattle.model.specs.State as states
 use Rattle.model.specs.State.{Store}
-use Rattle.model.specs.Calls.{Call, Reply, refused, accepted}
+use Rattle.model.specs.Calls.{Call}
 use Rattle.model.specs.Step as steps
 use Rattle.model.specs.Run as model
 use Rattle.model.proofs.transitions.Refused.{onward}
 use Rattle.model.proofs.journal.Lists as lists
 use Rattle.state.specs.declared.state.State.{State}
 use Rattle.state.specs.View.{viewState}
-use Rattle.state.specs.Outcome.{Outcome, viewOutcome, replyOf}
-use Rattle.call_list.specs.Run.{Step, Made, Run, made, ran, runBy, acceptedOnly, viewMade, viewRun}
+use Rattle.state.specs.Outcome.{Outcome, viewOutcome}
+use Rattle.call_list.specs.Run.{Step, Made, Run, made, ran, runBy, viewMade, viewRun}
 
 -- ---- one call more
 
@@ -56,15 +56,3 @@ module _ (step : Step) (P : State → Type 0)
       ap (λ (r : model.Run). record { made = viewMade (made call (o .answered .answer)) ∷ r .made; state = r .state; store = r .store })
       (view-run (o .answered .state) (o .store) calls (keeps s store call p))
       ∙ ap (λ (x : steps.Outcome). onward call x calls) (same s store call p)
-
--- the calls that were not refused are those of the model
-pub view-accepted : (l : List Made) → map viewMade (acceptedOnly l) ≡ model.acceptedOnly (map viewMade l)
-unfolding acceptedOnly model.acceptedOnly
-view-accepted [] = refl
-view-accepted (m ∷ l) = go (replyOf (m .answer)) (view-accepted l)
-  where
-    go : (reply : Reply) → map viewMade (acceptedOnly l) ≡ model.acceptedOnly (map viewMade l)
-        → map viewMade (elim reply as (λ y. List Made) [ refused number ↦ acceptedOnly l | accepted answer ↦ m ∷ acceptedOnly l ])
-        ≡ elim reply as (λ y. List model.Made) [ refused number ↦ model.acceptedOnly (map viewMade l) | accepted answer ↦ viewMade m ∷ model.acceptedOnly (map viewMade l) ]
-    go (refused number) ih = ih
-    go (accepted answer) ih = ap (λ (x : List model.Made). viewMade m ∷ x) ih

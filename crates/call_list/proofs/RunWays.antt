@@ -1,9 +1,9 @@
 -- The ways out of `run`: refused as malformed, refused for want of room, or every call made. Assumes nothing.
 use Prim.Native.Nat.{ℕ, _*_, _/_, _≤_, _<_}
-use mathlib.Core.Path.{_≡_, refl, sym, ap, _∙_}
-use mathlib.Core.Bool.{true, false}
-use mathlib.Core.List.{List, map}
-use mathlib.Core.Option.{Option, none, some}
+use mathlib.Core.Path.{_≡_, refl, sym, ap, subst, _∙_}
+use mathlib.Core.Bool.{Bool, true, false, true≢false}
+use mathlib.Core.List.{List}
+use mathlib.Core.Option.{Option, none, some, Option·some-injective}
 use native.Mathlib.Omega.{arith}
 use lib.ListN.{length}
 use borrow.Author.Tests.{le-leb, lt-leb}
@@ -11,42 +11,68 @@ use Rattle.base.proofs.Tests.{clash}
 use Rattle.model.specs.State.{Store}
 use Rattle.model.specs.Calls.{Call}
 use Rattle.model.specs.Run as model
+use Rattle.model.specs.Journal.{Journal, journal}
+use Rattle.model.specs.Invariant.{Invariant}
+use Rattle.model.proofs.journal.Demand3.{list-keeps, demand3-from}
 use Rattle.state.specs.declared.state.State.{State}
 use Rattle.state.specs.View.{viewState}
 use Rattle.call_rows.specs.Rows.{decoded, isGiven}
 use Rattle.call_rows.proofs.RowListLaws.{six-for-each}
-use Rattle.call_list.specs.declared.ListAnswer.the-variants.{Made as AllMade, Malformed, ShortAnswers}
-use Rattle.call_list.specs.declared.Ran.{Ran}
-use Rattle.call_list.specs.Run.{Run, viewMade}
-use Rattle.call_list.specs.Answers.{answersAfter}
-use Rattle.call_list.specs.WholeList.{Ended, ended, answeredWith, listEnds, modelEnded, viewEnded, modelListEnds, MadeFrom}
+use Rattle.call_list.specs.declared.ListReply.the-variants.{Made, Malformed, ShortAnswers}
+use Rattle.call_list.specs.declared.RepliedList.{RepliedList}
+use Rattle.call_list.specs.Run.{Run, runBy}
+use Rattle.call_list.specs.Answers.{wordsOf}
+use Rattle.call_list.specs.WholeList.{replied, listOutcome, outcomeOf, runOutcome, modelOutcomeOf, viewListOutcome, modelRunOutcome, GoesOn, MadeFrom}
 
--- both clauses of `run`
-abbrev Both : State → Store → List ℕ → Option (List Call) → Ended → Type 0
-Both s store answers calls e = (viewEnded e ≡ modelListEnds (viewState s) store answers calls) × (e ≡ listEnds s store answers calls)
+-- ---- the three clauses
 
 module _ (s : State) (store : Store) (answers : List ℕ) where
-  malformed : (o : Option (List Call)) → isGiven o ≡ false → Both s store answers o (ended (answeredWith Malformed s) store answers)
-  unfolding listEnds modelListEnds
-  malformed none e = (refl, refl)
+  abbrev Continues : Option (List Call) → RepliedList → Store → Type 0
+  Continues given r store′ =
+      (calls : List Call) → given ≡ some calls → r .reply ≡ Made → (j : Journal) → Invariant j (viewState s) store
+      → GoesOn j s store calls (r .state) store′
+
+  abbrev Clauses : Option (List Call) → RepliedList → Store → List ℕ → Type 0
+  Clauses given r store′ answers′ =
+      (viewListOutcome (listOutcome r store′ answers′) ≡ modelRunOutcome (viewState s) store answers given)
+      × ((listOutcome r store′ answers′ ≡ runOutcome s store answers given) × Continues given r store′)
+
+  malformed : (given : Option (List Call)) → isGiven given ≡ false → Clauses given (replied Malformed s) store answers
+  unfolding runOutcome modelRunOutcome runBy model.run wordsOf
+  malformed none e = (refl, (refl, λ calls is made. let z : _≡_ {A = Bool} true false = cc in absurd (true≢false z)))
   malformed (some calls) e = clash refl e
 
-  short : (calls : List Call) → length answers < 2 * length calls → Both s store answers (some calls) (ended (answeredWith ShortAnswers s) store answers)
-  unfolding listEnds modelListEnds
-  short calls h = let no = lt-leb (2 * length calls) (length answers) h in (rw no, rw no)
+  short : (calls : List Call) → length answers < 2 * length calls → Clauses (some calls) (replied ShortAnswers s) store answers
+  unfolding runOutcome modelRunOutcome runBy model.run wordsOf
+  short calls h =
+      let no = lt-leb (2 * length calls) (length answers) h in
+      (rw no, (rw no, λ others is made. let z : _≡_ {A = Bool} true false = cc in absurd (true≢false z)))
 
-  all-made : (calls : List Call) → 2 * length calls ≤ length answers → (s′ : State) (store′ : Store) (answers′ : List ℕ)
-      → MadeFrom s store answers calls s′ store′ answers′ → Both s store answers (some calls) (ended (answeredWith AllMade s′) store′ answers′)
-  unfolding listEnds modelListEnds
-  all-made calls h s′ store′ answers′ m =
-      let yes = le-leb (2 * length calls) (length answers) h in (
-        rw yes
-            (ap (modelEnded AllMade (viewState s′) store′) (m .written)
-            ∙ ap (λ (r : model.Run). modelEnded AllMade (r .state) (r .store) (answersAfter (r .made) answers)) (m .meaning)),
-        rw yes
-            (ap (ended (answeredWith AllMade s′) store′) (m .written)
-            ∙ ap (λ (r : Run). ended (answeredWith AllMade (r .state)) (r .store) (answersAfter (map viewMade (r .made)) answers)) (sym (m .exact))),
-      )
+  module _ (calls : List Call) (s′ : State) (store′ : Store) (answers′ : List ℕ) (m : MadeFrom s store answers calls s′ store′ answers′) where
+    -- the calls behind those of a journal
+    goes-on : (j : Journal) → Invariant j (viewState s) store → GoesOn j s store calls s′ store′
+    goes-on j i =
+        record {
+          demand3 = demand3-from j (viewState s) store i calls;
+          invariant =
+              subst (λ (r : model.Run). Invariant (journal j (model.run (viewState s) store calls .made)) (r .state) (r .store)) (sym (m .meaning))
+              (list-keeps j (viewState s) store calls i);
+        }
+
+    all-made : 2 * length calls ≤ length answers → Clauses (some calls) (replied Made s′) store′ answers′
+    unfolding runOutcome modelRunOutcome
+    all-made h =
+        let yes = le-leb (2 * length calls) (length answers) h in (
+          rw yes
+              (ap (λ (words : List ℕ). viewListOutcome (listOutcome (replied Made s′) store′ words)) (m .written)
+              ∙ ap (λ (r : model.Run). modelOutcomeOf Made r answers) (m .meaning)),
+          (
+            rw yes
+                (ap (listOutcome (replied Made s′) store′) (m .written)
+                ∙ ap (λ (r : Run). outcomeOf Made r answers) (sym (m .exact))),
+            λ others is made j i. subst (λ (l : List Call). GoesOn j s store l s′ store′) (Option·some-injective _ _ is) (goes-on j i),
+          ),
+        )
 
 -- ---- what `run` learns on its way
 
@@ -55,23 +81,23 @@ pub given-cases : (P : Option (List Call) → Type 0) (o : Option (List Call)) �
 given-cases P none g f = clash g refl
 given-cases P (some calls) g f = f calls refl
 
-module _ (s : State) (store : Store) (answers words bytes : List ℕ) (r : Ran) where
-  pub ends-malformed : isGiven (decoded words bytes) ≡ false → r ≡ answeredWith Malformed s
-      → Both s store answers (decoded words bytes) (ended r store answers)
+module _ (s : State) (store : Store) (answers words bytes : List ℕ) (r : RepliedList) where
+  pub ends-malformed : isGiven (decoded words bytes) ≡ false → r ≡ replied Malformed s
+      → Clauses s store answers (decoded words bytes) r store answers
   ends-malformed g is = rw is (malformed s store answers (decoded words bytes) g)
 
-  pub ends-short : isGiven (decoded words bytes) ≡ true → length answers < length words / 3 → r ≡ answeredWith ShortAnswers s
-      → Both s store answers (decoded words bytes) (ended r store answers)
+  pub ends-short : isGiven (decoded words bytes) ≡ true → length answers < length words / 3 → r ≡ replied ShortAnswers s
+      → Clauses s store answers (decoded words bytes) r store answers
   ends-short g h is =
       rw is
-      (given-cases (λ (o : Option (List Call)). Both s store answers o (ended (answeredWith ShortAnswers s) store answers)) (decoded words bytes) g
+      (given-cases (λ (o : Option (List Call)). Clauses s store answers o (replied ShortAnswers s) store answers) (decoded words bytes) g
       λ calls e. short s store answers calls (omega (arith, six-for-each words bytes calls e)))
 
   pub ends-made : isGiven (decoded words bytes) ≡ true → length words / 3 ≤ length answers → (s′ : State) (store′ : Store) (answers′ : List ℕ)
-      → r ≡ answeredWith AllMade s′
+      → r ≡ replied Made s′
       → ((calls : List Call) → decoded words bytes ≡ some calls → MadeFrom s store answers calls s′ store′ answers′)
-      → Both s store answers (decoded words bytes) (ended r store′ answers′)
+      → Clauses s store answers (decoded words bytes) r store′ answers′
   ends-made g h s′ store′ answers′ is m =
       rw is
-      (given-cases (λ (o : Option (List Call)). Both s store answers o (ended (answeredWith AllMade s′) store′ answers′)) (decoded words bytes) g
-      λ calls e. all-made s store answers calls (omega (arith, six-for-each words bytes calls e)) s′ store′ answers′ (m calls e))
+      (given-cases (λ (o : Option (List Call)). Clauses s store answers o (replied Made s′) store′ answers′) (decoded words bytes) g
+      λ calls e. all-made s store answers calls s′ store′ answers′ (m calls e) (omega (arith, six-for-each words bytes calls e)))

@@ -1,69 +1,81 @@
--- What a list of calls in numbers and bytes gives, on the code's structs and in the model.
+-- What a list of calls in numbers and bytes gives, on the code's structs and in the model, and how it goes on from calls before it.
 use Prim.Native.Nat.{ℕ, _*_}
 use mathlib.Core.Path.{_≡_}
-use mathlib.Core.Bool.{cond}
 use mathlib.Core.List.{List, map}
-use mathlib.Core.Option.{Option, none, some}
-use lib.Dec.{leb}
+use mathlib.Core.Option.{Option, some}
 use lib.ListN.{length}
 use Rattle.model.specs.State as model
 use Rattle.model.specs.State.{Store}
 use Rattle.model.specs.Calls.{Call}
 use Rattle.model.specs.Step.{step}
 use Rattle.model.specs.Run as runs
+use Rattle.model.specs.Journal.{Journal, journal}
+use Rattle.model.specs.Invariant.{Invariant}
+use Rattle.model.specs.Demand3.{Demand3}
 use Rattle.state.specs.declared.state.State.{State}
 use Rattle.state.specs.View.{viewState}
 use Rattle.state.specs.Outcome.{Outcome, viewOutcome}
 use Rattle.manager.specs.Accepts.{exactStep}
 use Rattle.call_rows.specs.declared.row.Row.{Row}
 use Rattle.call_rows.specs.Row.{decodedRow}
-use Rattle.call_list.specs.declared.ListAnswer.{ListAnswer}
-use Rattle.call_list.specs.declared.ListAnswer.the-variants.{Made as AllMade, Malformed, ShortAnswers}
-use Rattle.call_list.specs.declared.Ran.{Ran}
-use Rattle.call_list.specs.Run.{Made, ran, runBy, viewMade, viewRun}
+use Rattle.call_list.specs.declared.ListReply.{ListReply}
+use Rattle.call_list.specs.declared.RepliedList.{RepliedList}
+use Rattle.call_list.specs.Run.{Made, Run, ran, runBy, viewMade, viewRun}
 use Rattle.call_list.specs.Answers.{wordsOf, answersAfter}
+use Rattle.call_list.specs.Replies.{callsMade, listReply, callsGiven}
 
--- what is lent and given back: the answer for the whole list, the state, the store and the slice of answers
-pub record Ended : Type 0 where
-  pub ran : Ran
+-- ---- on the structs
+
+abbrev pub replied : ListReply → State → RepliedList
+replied reply s = record { reply = reply; state = s }
+
+-- what is lent and given back: the reply for the whole list with the state, the store and the slice of answers
+pub record ListOutcome : Type 0 where
+  pub replied : RepliedList
   pub store : Store
   pub answers : List ℕ
 
-abbrev pub ended : Ran → Store → List ℕ → Ended
-ended r store answers = record { ran = r; store = store; answers = answers }
+abbrev pub listOutcome : RepliedList → Store → List ℕ → ListOutcome
+listOutcome r store answers = record { replied = r; store = store; answers = answers }
 
-abbrev pub answeredWith : ListAnswer → State → Ran
-answeredWith answer s = record { answer = answer; state = s }
+-- that of the calls made: their run, and their answers in the first words of the slice
+abbrev pub outcomeOf : ListReply → Run → List ℕ → ListOutcome
+outcomeOf reply r answers = listOutcome (replied reply (r .state)) (r .store) (answersAfter (map viewMade (r .made)) answers)
 
 -- a malformed list, or one with more calls than there is room for answers, changes nothing; every other is made whole
-unfoldable pub listEnds : State → Store → List ℕ → Option (List Call) → Ended
-listEnds s store answers none = ended (answeredWith Malformed s) store answers
-listEnds s store answers (some calls) =
-    let r = runBy exactStep s store calls in
-    cond (leb (2 * length calls) (length answers))
-    (ended (answeredWith AllMade (r .state)) (r .store) (answersAfter (map viewMade (r .made)) answers))
-    (ended (answeredWith ShortAnswers s) store answers)
+unfoldable pub runOutcome : State → Store → List ℕ → Option (List Call) → ListOutcome
+runOutcome s store answers given =
+    let reply = listReply given answers in
+    outcomeOf reply (runBy exactStep s store (callsMade reply (callsGiven given))) answers
 
--- the same in the model
-pub record ModelEnded : Type 0 where
-  pub answer : ListAnswer
+-- ---- in the model
+
+pub record ModelListOutcome : Type 0 where
+  pub reply : ListReply
   pub state : model.State
   pub store : Store
   pub answers : List ℕ
 
-abbrev pub modelEnded : ListAnswer → model.State → Store → List ℕ → ModelEnded
-modelEnded answer s store answers = record { answer = answer; state = s; store = store; answers = answers }
+abbrev pub viewListOutcome : ListOutcome → ModelListOutcome
+viewListOutcome o = record { reply = o .replied .reply; state = viewState (o .replied .state); store = o .store; answers = o .answers }
 
-abbrev pub viewEnded : Ended → ModelEnded
-viewEnded e = modelEnded (e .ran .answer) (viewState (e .ran .state)) (e .store) (e .answers)
+abbrev pub modelOutcomeOf : ListReply → runs.Run → List ℕ → ModelListOutcome
+modelOutcomeOf reply r answers = record { reply = reply; state = r .state; store = r .store; answers = answersAfter (r .made) answers }
 
-unfoldable pub modelListEnds : model.State → Store → List ℕ → Option (List Call) → ModelEnded
-modelListEnds s store answers none = modelEnded Malformed s store answers
-modelListEnds s store answers (some calls) =
-    let r = runs.run s store calls in
-    cond (leb (2 * length calls) (length answers))
-    (modelEnded AllMade (r .state) (r .store) (answersAfter (r .made) answers))
-    (modelEnded ShortAnswers s store answers)
+unfoldable pub modelRunOutcome : model.State → Store → List ℕ → Option (List Call) → ModelListOutcome
+modelRunOutcome s store answers given =
+    let reply = listReply given answers in
+    modelOutcomeOf reply (runs.run s store (callsMade reply (callsGiven given))) answers
+
+-- ---- lists that go on
+
+-- a list made behind other calls. Where the invariant ties the state and store before it to the journal j of those calls, demand 3 holds
+-- of it with j, and the invariant ties the state and store given back to j with its calls noted: so a list may be handed in piece by piece
+pub record GoesOn (j : Journal) (s : State) (store : Store) (calls : List Call) (s′ : State) (store′ : Store) : Type 0 where
+  pub demand3 : Demand3 j (viewState s) store calls
+  pub invariant : Invariant (journal j (runs.run (viewState s) store calls .made)) (viewState s′) store′
+
+-- ---- on the way
 
 -- what a call of a row gives, where the row is well formed
 pub record RowMade (s : State) (store : Store) (row : Row) (bytes : List ℕ) (o : Outcome) : Type 0 where

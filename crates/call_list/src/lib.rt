@@ -22,21 +22,27 @@ ghost use Prim.Native.Nat.{_+_, _/_, _≤_};
 ghost use lib.ListN.{length};
 ghost use lib.Seq.{sets};
 ghost use Rattle.model.specs.Calls.{Call};
+ghost use Rattle.model.specs.Journal.{Journal};
+ghost use Rattle.model.specs.Invariant.{Invariant};
 ghost use Rattle.state.specs.View.{viewState};
 ghost use Rattle.state.specs.Outcome.{replyOf, outcome};
 ghost use Rattle.call_rows.specs.Rows.{decoded, isGiven};
 ghost use Rattle.call_rows.specs.Answers.{answerWords};
-ghost use Rattle.call_list.specs.WholeList.{ended, answeredWith, listEnds, viewEnded, modelListEnds, RowMade, MadeFrom};
+ghost use Rattle.call_list.specs.declared.ListReply.the-variants.{Made};
+ghost use Rattle.call_list.specs.WholeList.{replied, listOutcome, runOutcome, viewListOutcome, modelRunOutcome, GoesOn, RowMade, MadeFrom};
 
-// Whether every call of a list was made, or the list was refused whole.
-pub enum ListAnswer {
+// What became of a list of calls: every call was made, or none was, because the list is malformed, the slice for its answers is too short,
+// or Load, where it comes before the list, was refused.
+pub enum ListReply {
     Made,
+    BadLoad,
     Malformed,
     ShortAnswers,
 }
 
-pub struct Ran {
-    pub answer: ListAnswer,
+// The reply for a list, with the state then.
+pub struct RepliedList {
+    pub reply: ListReply,
     pub state: State,
 }
 
@@ -80,27 +86,35 @@ fn make_all(s: State, store: &mut [u8], words: &[u32], bytes: &[u8], answers: &m
     state
 }
 
-fn answered_with(answer: ListAnswer, s: State) -> Ran
-    ensures { λ r. ⌜ r ≡ answeredWith answer s ⌝ }
+fn replied(reply: ListReply, s: State) -> RepliedList
+    ensures { λ r. ⌜ r ≡ replied reply s ⌝ }
 {
-    Ran {
-        answer: answer,
+    RepliedList {
+        reply: reply,
         state: s,
     }
 }
 
 // A list of calls in rows of six words, with their blocks in a byte string, is made from a state and a store. The answers are two words
-// for each call. A malformed list, or one with more calls than there is room for answers, is refused whole before anything is changed.
-pub fn run(s: State, store: &mut [u8], words: &[u32], bytes: &[u8], answers: &mut [u32]) -> Ran
-    ensures meaning { λ r. ⌜ viewEnded (ended r (now (store .exit)) (now (answers .exit))) ≡ modelListEnds (viewState s) (now (store .entry)) (now (answers .entry)) (decoded (now (words .entry)) (now (bytes .entry))) ⌝ }
-    ensures exact { λ r. ⌜ ended r (now (store .exit)) (now (answers .exit)) ≡ listEnds s (now (store .entry)) (now (answers .entry)) (decoded (now (words .entry)) (now (bytes .entry))) ⌝ }
+// for each call. A malformed list, or one with more calls than there is room for answers, is refused whole before anything is changed. A list
+// that was made may go on by another: `goes_on`.
+pub fn run(
+    s: State,
+    store: &mut [u8],
+    words: &[u32],
+    bytes: &[u8],
+    answers: &mut [u32],
+) -> RepliedList
+    ensures meaning { λ r. ⌜ viewListOutcome (listOutcome r (now (store .exit)) (now (answers .exit))) ≡ modelRunOutcome (viewState s) (now (store .entry)) (now (answers .entry)) (decoded (now (words .entry)) (now (bytes .entry))) ⌝ }
+    ensures exact { λ r. ⌜ listOutcome r (now (store .exit)) (now (answers .exit)) ≡ runOutcome s (now (store .entry)) (now (answers .entry)) (decoded (now (words .entry)) (now (bytes .entry))) ⌝ }
+    ensures goes_on { λ r. ⌜ ((calls : List Call) → decoded (now (words .entry)) (now (bytes .entry)) ≡ some calls → r .reply ≡ Made → (j : Journal) → Invariant j (viewState s) (now (store .entry)) → GoesOn j s (now (store .entry)) calls (r .state) (now (store .exit))) ⌝ }
 {
     if !rows_well_formed(words, bytes) {
-        return answered_with(ListAnswer::Malformed, s);
+        return replied(ListReply::Malformed, s);
     }
     if words.len() / 3 > answers.len() {
-        return answered_with(ListAnswer::ShortAnswers, s);
+        return replied(ListReply::ShortAnswers, s);
     }
     let state = make_all(s, store, words, bytes, answers);
-    answered_with(ListAnswer::Made, state)
+    replied(ListReply::Made, state)
 }

@@ -1,5 +1,6 @@
--- Every list of calls can be written as words and bytes that are decoded as it. The words fit 32 bits where the numbers of the calls do
--- and all blocks together are shorter than 4,294,967,296 bytes; the bytes fit 8 bits where those of the blocks do. Assumes nothing.
+-- Every list of calls can be written as numbers that are decoded as it. The numbers of its rows fit a `u32` slice where those of the calls
+-- do and all blocks together have at most 4,294,967,295 bytes; the bytes fit a `u8` slice where those of the blocks do. A longer list is
+-- handed in piece by piece. Assumes nothing.
 use Prim.Native.Nat.{ℕ, zero, suc, _+_, _<_, _≤_}
 use mathlib.Core.Path.{_≡_, refl, ap₂}
 use mathlib.Core.Bool.{true, false}
@@ -7,6 +8,9 @@ use mathlib.Core.List.{List, [], _∷_, _++_, append-assoc, List·Memᴰ, List·
 use mathlib.Core.Option.{some, Option·map}
 use native.Mathlib.Omega.{arith}
 use lib.ListN.{length, take, drop, length-append}
+use mir.Syntax.{Width, w8, w32}
+use mir.Val.{Fits}
+use mir.Facts.{fits-le, fits-lit, fits-below}
 use lib.Seq.{take-append-seam, drop-append-seam}
 use borrow.Author.Tests.{le-leb}
 use Rattle.model.specs.Calls.{Call, transferStart, transferData, transferExit, deleteTransfer, process, work, cancel, revert, activate, rollback, finish, report}
@@ -15,7 +19,7 @@ use Rattle.request.specs.Call.{callOf}
 use Rattle.call_rows.specs.declared.row.Row.{Row}
 use Rattle.call_rows.specs.Row.{requestsByNumber, requested, requestWithin, decodedRow}
 use Rattle.call_rows.specs.Rows.{before, decoded}
-use Rattle.call_rows.specs.Encoding.{rowWithNumber, encodedRow, blockIn, encodedFrom, encodedRows, encodedBytes, wordLimit, byteLimit, AllBelow, NumbersFit}
+use Rattle.call_rows.specs.Encoding.{rowWithNumber, encodedRow, blockIn, encodedFrom, encodedRows, encodedBytes, AllFit, NumbersFit}
 
 -- ---- a row is decoded as its call
 
@@ -63,23 +67,23 @@ every-list calls = list-back [] calls
 
 -- ---- in words of 32 bits and bytes
 
-below-append : (limit : ℕ) (a b : List ℕ) → AllBelow limit a → AllBelow limit b → AllBelow limit (a ++ b)
-below-append limit [] b h rest k = rest k
-below-append limit (x ∷ a) b h rest zero = h 0
-below-append limit (x ∷ a) b h rest (suc k) = below-append limit a b (λ n. h (suc n)) rest k
+fit-append : (width : Width) (a b : List ℕ) → AllFit width a → AllFit width b → AllFit width (a ++ b)
+fit-append width [] b h rest k = rest k
+fit-append width (x ∷ a) b h rest zero = h 0
+fit-append width (x ∷ a) b h rest (suc k) = fit-append width a b (λ n. h (suc n)) rest k
 
 -- every word of a row fits
 record RowFits (r : Row) : Type 0 where
-  call : r .call < wordLimit
-  reserved : r .reserved < wordLimit
-  first : r .first < wordLimit
-  second : r .second < wordLimit
-  start : r .start < wordLimit
-  length : r .length < wordLimit
+  call : Fits w32 (r .call)
+  reserved : Fits w32 (r .reserved)
+  first : Fits w32 (r .first)
+  second : Fits w32 (r .second)
+  start : Fits w32 (r .start)
+  length : Fits w32 (r .length)
 
 -- a row before other words
-before-words : (r : Row) (words : List ℕ) → RowFits r → AllBelow wordLimit words
-    → AllBelow wordLimit (r .call ∷ r .reserved ∷ r .first ∷ r .second ∷ r .start ∷ r .length ∷ words)
+before-words : (r : Row) (words : List ℕ) → RowFits r → AllFit w32 words
+    → AllFit w32 (r .call ∷ r .reserved ∷ r .first ∷ r .second ∷ r .start ∷ r .length ∷ words)
 before-words r words f later zero = f .call
 before-words r words f later (suc zero) = f .reserved
 before-words r words f later (suc (suc zero)) = f .first
@@ -88,47 +92,61 @@ before-words r words f later (suc (suc (suc (suc zero)))) = f .start
 before-words r words f later (suc (suc (suc (suc (suc zero))))) = f .length
 before-words r words f later (suc (suc (suc (suc (suc (suc k)))))) = later k
 
-number-fits : (n first : ℕ) → n < 12 → first < wordLimit → RowFits (rowWithNumber n first)
+number-fits : (n first : ℕ) → n < 12 → Fits w32 first → RowFits (rowWithNumber n first)
 number-fits n first few h =
-    record { call = omega arith; reserved = omega arith; first = h; second = omega arith; start = omega arith; length = omega arith }
+    record {
+      call = fits-below {n = 12} tt (omega arith);
+      reserved = fits-lit tt;
+      first = h;
+      second = fits-lit tt;
+      start = fits-lit tt;
+      length = fits-lit tt;
+    }
 
-row-fits : (at : ℕ) (call : Call) → NumbersFit call → at + length (blockIn call) < wordLimit → RowFits (encodedRow at call)
+row-fits : (at : ℕ) (call : Call) → NumbersFit call → Fits w32 (at + length (blockIn call)) → RowFits (encodedRow at call)
 unfolding encodedRow blockIn NumbersFit
 row-fits at (transferStart size) h end = number-fits 0 size (omega arith) h
 row-fits at (transferData id counter block) h end =
-    record { call = omega arith; reserved = omega arith; first = h .0; second = h .1; start = omega arith; length = omega arith }
+    record {
+      call = fits-lit tt;
+      reserved = fits-lit tt;
+      first = h .0;
+      second = h .1;
+      start = fits-le (omega arith) end;
+      length = fits-le (omega arith) end;
+    }
 row-fits at (transferExit id) h end = number-fits 2 id (omega arith) h
 row-fits at (deleteTransfer id) h end = number-fits 3 id (omega arith) h
 row-fits at (process id) h end = number-fits 4 id (omega arith) h
 row-fits at (work n) h end = number-fits 5 n (omega arith) h
 row-fits at (cancel id) h end = number-fits 6 id (omega arith) h
-row-fits at revert h end = number-fits 7 0 (omega arith) (omega arith)
-row-fits at activate h end = number-fits 8 0 (omega arith) (omega arith)
-row-fits at rollback h end = number-fits 9 0 (omega arith) (omega arith)
-row-fits at finish h end = number-fits 10 0 (omega arith) (omega arith)
-row-fits at (report true) h end = number-fits 11 1 (omega arith) (omega arith)
-row-fits at (report false) h end = number-fits 11 0 (omega arith) (omega arith)
+row-fits at revert h end = number-fits 7 0 (omega arith) (fits-lit tt)
+row-fits at activate h end = number-fits 8 0 (omega arith) (fits-lit tt)
+row-fits at rollback h end = number-fits 9 0 (omega arith) (fits-lit tt)
+row-fits at finish h end = number-fits 10 0 (omega arith) (fits-lit tt)
+row-fits at (report true) h end = number-fits 11 1 (omega arith) (fits-lit tt)
+row-fits at (report false) h end = number-fits 11 0 (omega arith) (fits-lit tt)
 
 rows-fit : (at : ℕ) (calls : List Call) → ((call : Call) → List·Memᴰ call calls → NumbersFit call)
-    → at + length (encodedBytes calls) < wordLimit → AllBelow wordLimit (encodedFrom at calls)
+    → Fits w32 (at + length (encodedBytes calls)) → AllFit w32 (encodedFrom at calls)
 unfolding encodedFrom encodedBytes
-rows-fit at [] numbers end = λ k. omega arith
+rows-fit at [] numbers end = λ k. fits-lit tt
 rows-fit at (call ∷ calls) numbers end =
     let long = length-append (blockIn call) (encodedBytes calls) in
-    let f = row-fits at call (numbers call (List·Memᴰ·head refl)) (omega arith) in
-    let later = rows-fit (at + length (blockIn call)) calls (λ other m. numbers other (List·Memᴰ·tail m)) (omega arith) in
+    let f = row-fits at call (numbers call (List·Memᴰ·head refl)) (fits-le (omega arith) end) in
+    let later = rows-fit (at + length (blockIn call)) calls (λ other m. numbers other (List·Memᴰ·tail m)) (fits-le (omega arith) end) in
     before-words (encodedRow at call) (encodedFrom (at + length (blockIn call)) calls) f later
 
--- the words of a list of calls fit 32 bits
-pub words-fit : (calls : List Call) → ((call : Call) → List·Memᴰ call calls → NumbersFit call) → length (encodedBytes calls) < wordLimit
-    → AllBelow wordLimit (encodedRows calls)
-words-fit calls numbers short = rows-fit 0 calls numbers (omega arith)
+-- the words of a list of calls fit a `u32` slice
+pub words-fit : (calls : List Call) → ((call : Call) → List·Memᴰ call calls → NumbersFit call) → Fits w32 (length (encodedBytes calls))
+    → AllFit w32 (encodedRows calls)
+words-fit calls numbers short = rows-fit 0 calls numbers (fits-le (omega arith) short)
 
--- and its bytes 8
-pub bytes-fit : (calls : List Call) → ((call : Call) → List·Memᴰ call calls → AllBelow byteLimit (blockIn call))
-    → AllBelow byteLimit (encodedBytes calls)
+-- and its bytes a `u8` slice
+pub bytes-fit : (calls : List Call) → ((call : Call) → List·Memᴰ call calls → AllFit w8 (blockIn call))
+    → AllFit w8 (encodedBytes calls)
 unfolding encodedBytes
-bytes-fit [] blocks = λ k. omega arith
+bytes-fit [] blocks = λ k. fits-lit tt
 bytes-fit (call ∷ calls) blocks =
-    below-append byteLimit (blockIn call) (encodedBytes calls) (blocks call (List·Memᴰ·head refl))
+    fit-append w8 (blockIn call) (encodedBytes calls) (blocks call (List·Memᴰ·head refl))
     (bytes-fit calls λ other m. blocks other (List·Memᴰ·tail m))

@@ -1,8 +1,10 @@
 -- Lists of calls written as words and bytes: the blocks lie one behind the other in the byte string.
-use Prim.Native.Nat.{ℕ, _+_, _<_}
+use Prim.Native.Nat.{ℕ, _+_}
 use mathlib.Core.Bool.{cond}
 use mathlib.Core.List.{List, [], _∷_, _++_}
 use lib.ListN.{length, getD}
+use mir.Syntax.{Width, w32}
+use mir.Val.{Fits}
 use Rattle.model.specs.Calls.{Call, transferStart, transferData, transferExit, deleteTransfer, process, work, cancel, revert, activate, rollback, finish, report}
 use Rattle.call_rows.specs.declared.row.Row.{Row}
 use Rattle.call_rows.specs.Row.{row}
@@ -56,26 +58,19 @@ unfoldable pub encodedBytes : List Call → List ℕ
 encodedBytes [] = []
 encodedBytes (call ∷ calls) = blockIn call ++ encodedBytes calls
 
--- the numbers below which every word of 32 bits and every byte is
-abbrev pub wordLimit : ℕ
-wordLimit = 4294967296
-
-abbrev pub byteLimit : ℕ
-byteLimit = 256
-
--- every number of a list is below a limit, as is known of each element of a lent slice
-abbrev pub AllBelow : ℕ → List ℕ → Type 0
-AllBelow limit l = (k : ℕ) → getD l k 0 < limit
+-- every number of a list fits a width, as is known of each element of a lent slice: of a `u32` slice w32, of a `u8` slice w8
+abbrev pub AllFit : Width → List ℕ → Type 0
+AllFit width l = (k : ℕ) → Fits width (getD l k 0)
 
 -- the numbers of a call fit words of 32 bits
 unfoldable pub NumbersFit : Call → Type 0
-NumbersFit (transferStart size) = size < wordLimit
-NumbersFit (transferData id counter block) = (id < wordLimit) × (counter < wordLimit)
-NumbersFit (transferExit id) = id < wordLimit
-NumbersFit (deleteTransfer id) = id < wordLimit
-NumbersFit (process id) = id < wordLimit
-NumbersFit (work n) = n < wordLimit
-NumbersFit (cancel id) = id < wordLimit
+NumbersFit (transferStart size) = Fits w32 size
+NumbersFit (transferData id counter block) = Fits w32 id × Fits w32 counter
+NumbersFit (transferExit id) = Fits w32 id
+NumbersFit (deleteTransfer id) = Fits w32 id
+NumbersFit (process id) = Fits w32 id
+NumbersFit (work n) = Fits w32 n
+NumbersFit (cancel id) = Fits w32 id
 NumbersFit revert = Unit
 NumbersFit activate = Unit
 NumbersFit rollback = Unit

@@ -4,9 +4,8 @@
 use crate::answers::show_answers;
 use crate::answers::show_state;
 use crate::words::put_words;
-use call_list::ListAnswer;
-use call_list::loaded::LoadedAnswer;
-use call_list::loaded::LoadedRan;
+use call_list::ListReply;
+use call_list::RepliedList;
 use call_list::loaded::load_and_run;
 use call_list::run;
 use cases::case::field;
@@ -16,7 +15,7 @@ use clusters::table::empty_table;
 use state::state::loaded_state;
 
 // The list is run from the table of the case.
-fn run_list(case: &[u8], words: &[u32], store: &mut [u8], answers: &mut [u32]) -> LoadedRan {
+fn run_list(case: &[u8], words: &[u32], store: &mut [u8], answers: &mut [u32]) -> RepliedList {
     let first = number_of(field(case, 1));
     let handed_in = loaded_state(empty_table(), 1);
     load_and_run(
@@ -30,18 +29,23 @@ fn run_list(case: &[u8], words: &[u32], store: &mut [u8], answers: &mut [u32]) -
     )
 }
 
-fn show_list(case: &[u8], words: &[u32], store: &mut [u8], answers: &mut [u32]) {
-    let ran = run_list(case, words, store, answers);
-    let answer = ran.answer;
-    match answer {
-        LoadedAnswer::Made => {
-            show_answers(answers, words.len() / 3);
-            show_state(ran.state);
+// The answers of a list that was made, as words, and the state then; or why none was made.
+fn show_replied(list: RepliedList, answers: &[u32], count: usize) {
+    let reply = list.reply;
+    match reply {
+        ListReply::Made => {
+            show_answers(answers, count);
+            show_state(list.state);
         }
-        LoadedAnswer::BadLoad => show::bytes(b" refused 20\n"),
-        LoadedAnswer::Malformed => show::bytes(b" malformed\n"),
-        LoadedAnswer::ShortAnswers => show::bytes(b" more calls than answers\n"),
+        ListReply::BadLoad => show::bytes(b" refused 20\n"),
+        ListReply::Malformed => show::bytes(b" malformed\n"),
+        ListReply::ShortAnswers => show::bytes(b" more calls than answers\n"),
     }
+}
+
+fn show_list(case: &[u8], words: &[u32], store: &mut [u8], answers: &mut [u32]) {
+    let list = run_list(case, words, store, answers);
+    show_replied(list, answers, words.len() / 3);
 }
 
 fn play_list(case: &[u8], words: &[u32]) {
@@ -59,16 +63,8 @@ fn show_further_call(
     answers: &mut [u32],
 ) {
     let before = run_list(case, words, store, answers);
-    let ran = run(before.state, store, row, field(case, 5), answers);
-    let answer = ran.answer;
-    match answer {
-        ListAnswer::Made => {
-            show_answers(answers, row.len() / 3);
-            show_state(ran.state);
-        }
-        ListAnswer::Malformed => show::bytes(b" malformed\n"),
-        ListAnswer::ShortAnswers => show::bytes(b" more calls than answers\n"),
-    }
+    let list = run(before.state, store, row, field(case, 5), answers);
+    show_replied(list, answers, row.len() / 3);
 }
 
 fn play_further_call(case: &[u8], words: &[u32], text: &[u8]) {

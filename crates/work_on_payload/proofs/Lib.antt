@@ -2,3 +2,4 @@ pub mod PayloadLaws
 pub mod EndingLaws
 pub mod WorkLaws
 pub mod ViewWorked
+pub mod WorkedRoom

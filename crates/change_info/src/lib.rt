@@ -16,13 +16,13 @@ ghost use lib.ListN.{length};
 ghost use Rattle.model.specs.Sound.{soundFor};
 ghost use Rattle.model.specs.Reading.{changeInfo, changeInfoMost, changeInfoReport};
 ghost use Rattle.state.specs.View.{entriesMost, viewState};
-ghost use Rattle.reading_reply.specs.Reply.{reported, reportOnSound};
+ghost use Rattle.reading_reply.specs.Reply.{viewReport, reportOnSound};
 ghost use Rattle.change_info.specs.Changes.{changesText};
 
 // The changes in the lent buffer, if it has the room. A sound state meets what is required.
 fn report_changes(session: Session, buffer: &mut [u8]) -> ReadingReply
     requires { ⌜ (session .count ≤ entriesMost) × (length (changesText session) ≤ changeInfoMost) ⌝ }
-    ensures { λ r. ⌜ reported r (now (buffer .exit)) ≡ reportOnSound (changesText session) (now (buffer .entry)) ⌝ }
+    ensures { λ r. ⌜ viewReport r (now (buffer .exit)) ≡ reportOnSound (changesText session) (now (buffer .entry)) ⌝ }
 {
     let needed = changes_length(session);
     if buffer.len() < needed {
@@ -33,16 +33,16 @@ fn report_changes(session: Session, buffer: &mut [u8]) -> ReadingReply
 }
 
 // ChangeInfo of a state that is known to be sound, which `change_info` checks.
-pub fn change_info_on_sound(s: State, store: &[u8], buffer: &mut [u8]) -> ReadingReply
+fn change_info_on_sound(s: State, store: &[u8], buffer: &mut [u8]) -> ReadingReply
     requires { ⌜ soundFor (viewState s) (length (now store)) ≡ true ⌝ }
-    ensures { λ r. ⌜ reported r (now (buffer .exit)) ≡ reportOnSound (changeInfo (viewState s)) (now (buffer .entry)) ⌝ }
+    ensures { λ r. ⌜ viewReport r (now (buffer .exit)) ≡ reportOnSound (changeInfo (viewState s)) (now (buffer .entry)) ⌝ }
 {
     let session = s.session;
     report_changes(session, buffer)
 }
 
 pub fn change_info(s: State, store: &[u8], buffer: &mut [u8]) -> ReadingReply
-    ensures { λ r. ⌜ reported r (now (buffer .exit)) ≡ changeInfoReport (viewState s) (now (store .entry)) (now (buffer .entry)) ⌝ }
+    ensures { λ r. ⌜ viewReport r (now (buffer .exit)) ≡ changeInfoReport (viewState s) (now (store .entry)) (now (buffer .entry)) ⌝ }
 {
     if !sound(s, store.len()) {
         return ReadingReply::Refused(BAD_STATE);

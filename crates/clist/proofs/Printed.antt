@@ -39,7 +39,7 @@ use Rattle.load.proofs.Told.{IsOther, bad-load, told-bad}
 use Rattle.reading_reply.specs.declared.ReadingReply.{ReadingReply}
 use Rattle.reading_reply.specs.declared.ReadingReply.the-variants.{Refused as RefusedReport, ShortBuffer, Given}
 use Rattle.reading_reply.specs.Reply as report
-use Rattle.reading_reply.specs.Reply.{reported}
+use Rattle.reading_reply.specs.Reply.{viewReport}
 use Rattle.reading_reply.proofs.ReadingReply as reading-reply
 use Rattle.clist.specs.Answer.{printed, firstId, answerTo}
 
@@ -80,11 +80,11 @@ given-alone (ShortBuffer needed) count e = cc
 given-alone (Given n) count e = cc
 
 module _ (s : model.State) (store : Store) (ok : sound s store ≡ true) (old new : List ℕ) (room : writtenListMost ≤ length old)
-    (r : ReadingReply) (meaning : reported r new ≡ clusterInfoReport s store old) where
+    (r : ReadingReply) (meaning : viewReport r new ≡ clusterInfoReport s store old) where
   fits : length (clusterInfo s) ≤ length old
   fits = omega (arith, cluster-info-most s store ok)
 
-  is-whole : reported r new
+  is-whole : viewReport r new
       ≡ record { reply = reading.given (length (clusterInfo s)); buffer = clusterInfo s ++ drop (length (clusterInfo s)) old }
   unfolding clusterInfoReport reportOf reportBuffer
   is-whole = meaning ∙ rw (report-fits s store (length (clusterInfo s)) (length old) ok fits)
@@ -132,7 +132,7 @@ module _ (input : List ℕ) (s : State) (r : Answered) (after : Store)
       rw is p
 
   module _ (done-told : r .answer ≡ Done) (old new : List ℕ) (room : writtenListMost ≤ length old) (info : ReadingReply)
-      (meaning : reported info new ≡ clusterInfoReport (viewState (r .state)) after old) where
+      (meaning : viewReport info new ≡ clusterInfoReport (viewState (r .state)) after old) where
     is-sound : sound (viewState (r .state)) after ≡ true
     unfolding SoundIfAccepted
     is-sound = loads .1 .1 done (ap replyOf done-told)

@@ -8,11 +8,11 @@ use Rattle.model.specs.Load.{load}
 use Rattle.model.specs.Reading.{clusterInfo, clusterInfoReport}
 use Rattle.model.proofs.Claims.{cluster-info-loads-back}
 use Rattle.reading_reply.specs.declared.ReadingReply.{ReadingReply}
-use Rattle.reading_reply.specs.Reply.{reported}
+use Rattle.reading_reply.specs.Reply.{viewReport}
 use Rattle.reading_reply.proofs.ReportLaws.{given-says}
 use Rattle.cluster_info.specs.LoadsBack.{LoadsBack}
 
-pub written-loads-back : (s : State) (store : Store) (r : ReadingReply) (old new : List ℕ) → reported r new ≡ clusterInfoReport s store old
+pub written-loads-back : (s : State) (store : Store) (r : ReadingReply) (old new : List ℕ) → viewReport r new ≡ clusterInfoReport s store old
     → LoadsBack s r new
 unfolding LoadsBack clusterInfoReport
 written-loads-back s store r old new e count f given first lent least most room =
@@ -21,6 +21,6 @@ written-loads-back s store r old new e count f given first lent least most room 
     ∙ cluster-info-loads-back s store (is .isSound) given first lent least most room
 
 -- both clauses of ClusterInfo follow from its equation
-pub promised : (s : State) (store : Store) (r : ReadingReply) (old new : List ℕ) → reported r new ≡ clusterInfoReport s store old
-    → (reported r new ≡ clusterInfoReport s store old) × LoadsBack s r new
+pub promised : (s : State) (store : Store) (r : ReadingReply) (old new : List ℕ) → viewReport r new ≡ clusterInfoReport s store old
+    → (viewReport r new ≡ clusterInfoReport s store old) × LoadsBack s r new
 promised s store r old new e = (e, written-loads-back s store r old new e)

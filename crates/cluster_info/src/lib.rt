@@ -16,13 +16,13 @@ ghost use Rattle.cluster_list.specs.Write.{writeList};
 ghost use Rattle.model.specs.Sound.{soundFor};
 ghost use Rattle.model.specs.Reading.{clusterInfo, clusterInfoReport};
 ghost use Rattle.state.specs.View.{viewState};
-ghost use Rattle.reading_reply.specs.Reply.{reported, reportOnSound};
+ghost use Rattle.reading_reply.specs.Reply.{viewReport, reportOnSound};
 ghost use Rattle.cluster_info.specs.LoadsBack.{LoadsBack};
 
 // A table as a list in the lent buffer, if it has the room. The running table of a sound state is within its limits.
 fn report_table(table: Table, buffer: &mut [u8]) -> ReadingReply
     requires { ⌜ tableWithin (viewTable table) ≡ true ⌝ }
-    ensures { λ r. ⌜ reported r (now (buffer .exit)) ≡ reportOnSound (writeList (viewTable table)) (now (buffer .entry)) ⌝ }
+    ensures { λ r. ⌜ viewReport r (now (buffer .exit)) ≡ reportOnSound (writeList (viewTable table)) (now (buffer .entry)) ⌝ }
 {
     let needed = list_length(table);
     if buffer.len() < needed {
@@ -33,9 +33,9 @@ fn report_table(table: Table, buffer: &mut [u8]) -> ReadingReply
 }
 
 // ClusterInfo of a state that is known to be sound, which `cluster_info` checks.
-pub fn cluster_info_on_sound(s: State, store: &[u8], buffer: &mut [u8]) -> ReadingReply
+fn cluster_info_on_sound(s: State, store: &[u8], buffer: &mut [u8]) -> ReadingReply
     requires { ⌜ soundFor (viewState s) (length (now store)) ≡ true ⌝ }
-    ensures { λ r. ⌜ reported r (now (buffer .exit)) ≡ reportOnSound (clusterInfo (viewState s)) (now (buffer .entry)) ⌝ }
+    ensures { λ r. ⌜ viewReport r (now (buffer .exit)) ≡ reportOnSound (clusterInfo (viewState s)) (now (buffer .entry)) ⌝ }
 {
     let phase = s.phase;
     let session = s.session;
@@ -44,7 +44,7 @@ pub fn cluster_info_on_sound(s: State, store: &[u8], buffer: &mut [u8]) -> Readi
 }
 
 pub fn cluster_info(s: State, store: &[u8], buffer: &mut [u8]) -> ReadingReply
-    ensures meaning { λ r. ⌜ reported r (now (buffer .exit)) ≡ clusterInfoReport (viewState s) (now (store .entry)) (now (buffer .entry)) ⌝ }
+    ensures meaning { λ r. ⌜ viewReport r (now (buffer .exit)) ≡ clusterInfoReport (viewState s) (now (store .entry)) (now (buffer .entry)) ⌝ }
     ensures loads_back { λ r. ⌜ LoadsBack (viewState s) r (now (buffer .exit)) ⌝ }
 {
     if !sound(s, store.len()) {

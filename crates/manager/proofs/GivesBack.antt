@@ -23,7 +23,7 @@ use Rattle.staging.specs.Staged.{stagedTable}
 use Rattle.work_on_payload.specs.Payload.{workOn}
 use Rattle.work_on_payload.specs.Ending.{ended, sumCompared}
 use Rattle.work_on_payload.specs.Work.{areaAt, workedTo, workedAt}
-use Rattle.report.specs.Reported.{activatingReported, reported}
+use Rattle.report.specs.Reported.{activatingReported, phaseReported}
 use Rattle.manager.specs.Accepts.{accepts}
 
 -- an outcome gives back a state and a store if it is a refusal
@@ -61,8 +61,8 @@ module _ (s : State) (store : Store) where
   activating-back true false number = never calls.missingDependencies number
   activating-back false met number = never calls.preActivationFailed number
 
-  report-back : (phase : Phase) (good : Bool) → GivesBack s store (reported s store phase good)
-  unfolding reported
+  report-back : (phase : Phase) (good : Bool) → GivesBack s store (phaseReported s store phase good)
+  unfolding phaseReported
   report-back Activating good number = activating-back good (needsMet (viewTable (stagedTable (s .session)))) number
   report-back Verifying true number = never calls.done number
   report-back Verifying false number = never calls.verificationFailed number

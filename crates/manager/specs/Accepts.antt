@@ -16,7 +16,7 @@ use Rattle.process_package.specs.Process.{processingBegun}
 use Rattle.work_on_payload.specs.Work.{worked}
 use Rattle.cancel_processing.specs.Cancel.{cancelNoted}
 use Rattle.session_calls.specs.Moved.{reverting, activating, rollingBack, finishing}
-use Rattle.report.specs.Reported.{reported}
+use Rattle.report.specs.Reported.{phaseReported}
 
 -- "The twelve changing calls", each as its own crate defines it
 unfoldable pub accepts : State → Store → Call → Outcome
@@ -31,7 +31,7 @@ accepts s store revert = reverting s store
 accepts s store activate = activating s store
 accepts s store rollback = rollingBack s store
 accepts s store finish = finishing s store
-accepts s store (report good) = reported s store (s .phase) good
+accepts s store (report good) = phaseReported s store (s .phase) good
 
 -- what a call gives: refused as the model refuses it, or accepted
 abbrev pub exactStep : State → Store → Call → Outcome

@@ -9,8 +9,8 @@ use lib.ListN.{length, getD, set}
 use borrow.Author.Tests.{lt-ltb, ltb-false}
 use Rattle.base.proofs.Tests.{cond-cases}
 use Rattle.model.specs.Sound.{packagesMost}
-use Rattle.package_records.specs.declared.Record.{Record}
-use Rattle.package_records.specs.Records.{clearedRecord}
+use Rattle.packages_report.specs.declared.Record.{Record}
+use Rattle.packages_report.specs.Records.{clearedRecord}
 use Rattle.packages_report.specs.Packages.{copiedOf, recordAt, firstFrom}
 
 next : (i : ℕ) (rs l : List Record) → i < length rs → i < length l → set (firstFrom i rs l) i (getD rs i clearedRecord) ≡ firstFrom (suc i) rs l

@@ -1,4 +1,4 @@
 pub mod Copied
-pub mod Lent
 pub mod PackagesArray
+pub mod Recorded
 pub mod Reported

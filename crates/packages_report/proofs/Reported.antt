@@ -20,9 +20,9 @@ use Rattle.state.proofs.Views.{packages-few}
 use Rattle.state.proofs.PackagesAlong.{packages-length}
 use Rattle.areas.proofs.FirstPlaces.{take-first}
 use Rattle.areas.proofs.FoundPackage.{count-fits}
-use Rattle.package_records.specs.declared.Record.{Record}
-use Rattle.package_records.specs.declared.Records.{Records}
-use Rattle.package_records.specs.Records.{recordOf, clearedRecord, recordsOf, viewRecord}
+use Rattle.packages_report.specs.declared.Record.{Record}
+use Rattle.packages_report.specs.declared.records.Records.{Records}
+use Rattle.packages_report.specs.Records.{recordOf, clearedRecord, recordsOf, viewRecord}
 use Rattle.reading_reply.specs.declared.ReadingReply.{ReadingReply as Reply}
 use Rattle.reading_reply.specs.declared.ReadingReply.the-variants.{Refused, ShortBuffer, Given}
 use Rattle.reading_reply.specs.Reply.{replyOf}

@@ -9,12 +9,12 @@ use Rattle.model.specs.State.{Store}
 use Rattle.model.specs.Sound.{packagesMost}
 use Rattle.model.specs.Reading.{ReadingReply, refusedBy, shortBuffer, given, Report, PackageRecord, packageRecords, reportReply}
 use Rattle.state.specs.declared.state.State.{State}
-use Rattle.package_records.specs.declared.Record.{Record}
-use Rattle.package_records.specs.declared.Records.{Records}
-use Rattle.package_records.specs.Records.{recordOf, clearedRecord, viewRecord}
+use Rattle.packages_report.specs.declared.Record.{Record}
+use Rattle.packages_report.specs.declared.records.Records.{Records}
+use Rattle.packages_report.specs.Records.{recordOf, clearedRecord, viewRecord}
 use Rattle.reading_reply.specs.declared.ReadingReply.{ReadingReply as Reply}
 use Rattle.reading_reply.specs.declared.ReadingReply.the-variants.{Refused, ShortBuffer, Given}
-use Rattle.reading_reply.specs.Reply.{reported}
+use Rattle.reading_reply.specs.Reply.{viewReport}
 use Rattle.packages_report.specs.declared.report.PackagesReport.{PackagesReport}
 
 -- ---- what Packages answers and leaves in the lent list
@@ -33,7 +33,7 @@ viewList = map viewRecord
 
 -- answer and list as the model's report
 abbrev pub packagesGiven : Reply → List Record → Report PackageRecord
-packagesGiven answer list = reported answer (viewList list)
+packagesGiven answer list = viewReport answer (viewList list)
 
 -- ---- the report by value, which is copied into the list
 
@@ -59,12 +59,3 @@ firstFrom n records list = take n records ++ drop n list
 
 abbrev pub filledFrom : Records → List Record → List Record
 filledFrom records list = firstFrom (copiedOf (records .count) (length list)) (records .records) list
-
--- ---- for a caller that has no list to lend
-
--- the room of the list that is lent in its place
-abbrev pub listMost : ℕ
-listMost = 64
-
-abbrev pub roomWithin : ℕ → ℕ
-roomWithin room = cond (ltb listMost room) listMost room

@@ -1,20 +1,39 @@
 // Packages: "Packages fills a lent list of records (id, size, received, state) in id order."
-pub mod by_value;
-pub mod report;
+mod records;
+mod report;
 
 use crate::report::PackagesReport;
 use crate::report::answer_of;
 use crate::report::copied;
 use crate::report::record_at;
 use crate::report::report_within;
-use package_records::Record;
 use reading_reply::ReadingReply;
 use state::state::State;
 ghost use mathlib.Core.Path.{_≡_};
 ghost use Rattle.model.specs.Reading.{packagesReport, reportBuffer};
 ghost use Rattle.state.specs.View.{viewState};
 ghost use Rattle.reading_reply.specs.Reply.{replyOf};
+ghost use Rattle.packages_report.specs.Records.{clearedRecord};
 ghost use Rattle.packages_report.specs.Packages.{filledFrom, listed, viewList, packagesGiven};
+
+pub struct Record {
+    pub id: u32,
+    pub size: u32,
+    pub received: u32,
+    pub state: u32,
+}
+
+// What stands in an unused place.
+pub fn cleared_record() -> Record
+    ensures { λ r. ⌜ r ≡ clearedRecord ⌝ }
+{
+    Record {
+        id: 0,
+        size: 0,
+        received: 0,
+        state: 0,
+    }
+}
 
 // The records of a report into the first places of a lent list; those behind them keep their values.
 fn fill(list: &mut [Record], report: PackagesReport) -> ReadingReply
@@ -32,7 +51,7 @@ fn fill(list: &mut [Record], report: PackagesReport) -> ReadingReply
 }
 
 // Packages: the records of all packages into the first places of a lent list, where they fit. A refusal writes nothing.
-pub fn packages(list: &mut [Record], s: State, store: &[u8]) -> ReadingReply
+pub fn packages(s: State, store: &[u8], list: &mut [Record]) -> ReadingReply
     ensures meaning { λ r. ⌜ packagesGiven r (now (list .exit)) ≡ packagesReport (viewState s) (now (store .entry)) (viewList (now (list .entry))) ⌝ }
     ensures exact { λ r. ⌜ now (list .exit) ≡ reportBuffer (replyOf r) (listed s) (now (list .entry)) ⌝ }
 {

@@ -1,7 +1,8 @@
 // What Packages writes and answers, by value.
-use package_records::Record;
-use package_records::Records;
-use package_records::records_of;
+use crate::Record;
+use crate::cleared_record;
+use crate::records::Records;
+use crate::records::records_of;
 use reading_reply::ReadingReply;
 use refusal::BAD_STATE;
 use soundness::sound::sound;
@@ -11,25 +12,13 @@ ghost use mathlib.Core.Path.{_≡_};
 ghost use lib.ListN.{length};
 ghost use Rattle.model.specs.State.{Store};
 ghost use Rattle.state.specs.View.{viewState};
-ghost use Rattle.package_records.specs.Records.{clearedRecord, recordsOf};
+ghost use Rattle.packages_report.specs.Records.{recordsOf};
 ghost use Rattle.packages_report.specs.Packages.{copiedOf, noneWritten, recordAt, packagesReply, reportWith};
 
 // The answer, and the records that are written: none where the call is refused.
 pub struct PackagesReport {
     pub answer: ReadingReply,
     pub written: Records,
-}
-
-// What stands in an unused place.
-pub fn cleared_record() -> Record
-    ensures { λ r. ⌜ r ≡ clearedRecord ⌝ }
-{
-    Record {
-        id: 0,
-        size: 0,
-        received: 0,
-        state: 0,
-    }
 }
 
 // A refusal: nothing is written.
@@ -67,16 +56,16 @@ pub fn report_within(s: State, size: usize, room: usize) -> PackagesReport
     }
 }
 
-// How many records are copied into a list of a length: those that the report counts, where they fit.
-pub fn copied(report: PackagesReport, length: usize) -> usize
-    ensures { λ r. ⌜ r ≡ copiedOf (report .written .count) length ⌝ }
+// How many records are copied into a list with a room: those that the report counts, where they fit.
+pub fn copied(report: PackagesReport, room: usize) -> usize
+    ensures { λ r. ⌜ r ≡ copiedOf (report .written .count) room ⌝ }
 {
     let written = report.written;
     let count = written.count;
     if PACKAGES_MOST < count {
         return 0;
     }
-    if length < count {
+    if room < count {
         return 0;
     }
     count

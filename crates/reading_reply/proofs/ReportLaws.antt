@@ -22,7 +22,7 @@ use Rattle.model.proofs.reading.Buffers.{report-short, report-fits, refused-lea
 use Rattle.model.proofs.reading.Replies.{report-decided, report-unsound}
 use Rattle.reading_reply.specs.declared.ReadingReply.{ReadingReply}
 use Rattle.reading_reply.specs.declared.ReadingReply.the-variants.{Refused, ShortBuffer, Given}
-use Rattle.reading_reply.specs.Reply.{replyOf, reported, replyOnSound, reportOnSound}
+use Rattle.reading_reply.specs.Reply.{replyOf, viewReport, replyOnSound, reportOnSound}
 
 -- ---- behind 1
 
@@ -37,7 +37,7 @@ module _ (needed room : ℕ) where
 
 module _ {A : Type 0} (content old : List A) (n : ℕ) (e : n ≡ length content) where
   -- "19. ShortBuffer": n is the length that was computed beforehand
-  pub short-report : length old < n → reported (ShortBuffer n) old ≡ reportOnSound content old
+  pub short-report : length old < n → viewReport (ShortBuffer n) old ≡ reportOnSound content old
   unfolding reportOnSound reportBuffer
   short-report h =
       rw (short-reply (length content) (length old) (rw e at h))
@@ -45,13 +45,13 @@ module _ {A : Type 0} (content old : List A) (n : ℕ) (e : n ≡ length content
 
   -- "Records or bytes behind what was written keep their values.": exact room is enough
   pub given-report : (new : List A) → length content ≤ length old → new ≡ content ++ drop (length content) old
-      → reported (Given n) new ≡ reportOnSound content old
+      → viewReport (Given n) new ≡ reportOnSound content old
   unfolding reportOnSound reportBuffer
   given-report new h same = rw (e, same, given-reply (length content) (length old) h)
 
 -- bytes that a writer put at the buffer's start
 pub put-report : (content old new : List ℕ) (n next : ℕ) → n ≡ length content → n ≤ length old → Put old 0 content next new
-    → reported (Given next) new ≡ reportOnSound content old
+    → viewReport (Given next) new ≡ reportOnSound content old
 put-report content old new n next e h p =
     let room : length content ≤ length old = omega arith in
     given-report content old next (p .behind ∙ zero-add (length content)) new room
@@ -60,7 +60,7 @@ put-report content old new n next e h p =
 -- ---- 1: b is what the check of soundness answers
 
 module _ {A : Type 0} (s : State) (store : Store) (content old : List A) (b : Bool) (told : b ≡ sound s store) where
-  pub refuse-unsound-report : not b ≡ true → reported (Refused 1) old ≡ reportOf s store content old
+  pub refuse-unsound-report : not b ≡ true → viewReport (Refused 1) old ≡ reportOf s store content old
   unfolding reportOf reportBuffer
   refuse-unsound-report h = rw (report-unsound s store (length content) (length old) (told-no b _ told h))
 
@@ -93,7 +93,7 @@ module _ {A : Type 0} (s : State) (store : Store) (content old : List A) where
       λ b. (ok, same-count _ _ (e ∙ report-fits s store (length content) (length old) ok (ltb-false _ _ b))))
       λ bad. reply-apart _ _ (e ∙ report-unsound s store (length content) (length old) bad) refl λ z. omega arith
 
-  pub given-says : (r : ReadingReply) (new : List A) (count : ℕ) → reported r new ≡ reportOf s store content old → r ≡ Given count
+  pub given-says : (r : ReadingReply) (new : List A) (count : ℕ) → viewReport r new ≡ reportOf s store content old → r ≡ Given count
       → GivenReport count new
   unfolding reportOf
   given-says r new count e f =
@@ -109,7 +109,7 @@ module _ {A : Type 0} (s : State) (store : Store) (content old : List A) where
       }
 
   -- a refusal leaves the buffer as it was
-  pub refused-keeps : (r : ReadingReply) (new : List A) → reported r new ≡ reportOf s store content old → 1 ≤ replyNumber (replyOf r)
+  pub refused-keeps : (r : ReadingReply) (new : List A) → viewReport r new ≡ reportOf s store content old → 1 ≤ replyNumber (replyOf r)
       → new ≡ old
   unfolding reportOf
   refused-keeps r new e h =

@@ -14,9 +14,9 @@ replyOf (Refused number) = model.refusedBy number
 replyOf (ShortBuffer needed) = model.shortBuffer needed
 replyOf (Given count) = model.given count
 
--- a reply, and what the lent buffer holds then
-abbrev pub reported : {A : Type 0} → ReadingReply → List A → Report A
-reported reply buffer = record { reply = replyOf reply; buffer = buffer }
+-- a reply, and what the lent buffer holds then, as the model's report
+abbrev pub viewReport : {A : Type 0} → ReadingReply → List A → Report A
+viewReport reply buffer = record { reply = replyOf reply; buffer = buffer }
 
 -- ---- behind 1
 

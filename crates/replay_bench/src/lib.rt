@@ -5,6 +5,7 @@ mod bench;
 mod call;
 mod gather;
 mod packages;
+mod packages_by_value;
 mod play;
 mod reading;
 mod show;

@@ -1,9 +1,9 @@
 // The records of Packages.
+use crate::packages_by_value::LIST_MOST;
+use crate::packages_by_value::PackagesByValue;
 use crate::reading::show_reply;
 use crate::show::show_text;
-use package_records::Record;
-use packages_report::by_value::LIST_MOST;
-use packages_report::by_value::PackagesByValue;
+use packages_report::Record;
 use reading_reply::ReadingReply;
 use script_answers::named::put_record;
 

@@ -2,6 +2,7 @@
 ghost use Prim.Native.Nat.{_≤_};
 ghost use lib.ListN.{length};
 use crate::packages::show_packages;
+use crate::packages_by_value::packages_by_value;
 use crate::show::show_answer;
 use crate::show::show_bytes;
 use crate::show::show_number;
@@ -9,7 +10,6 @@ use crate::show::show_text;
 use crate::show::show_unknown;
 use change_info::change_info;
 use cluster_info::cluster_info;
-use packages_report::by_value::packages_by_value;
 use payload::payload;
 use payload::payload_check;
 use progress::progress;

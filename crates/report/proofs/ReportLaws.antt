@@ -44,7 +44,7 @@ use Rattle.areas.proofs.Kept.{view-remaining}
 use Rattle.soundness.proofs.SoundSession.{session-fits, session-sound}
 use Rattle.staging.specs.Staged.{stagedTable, runningTable}
 use Rattle.staging.proofs.StagedViews.{view-staged, view-running}
-use Rattle.report.specs.Reported.{CleanUpFits, activatingReported, cleanedUp, failedPhase, reported}
+use Rattle.report.specs.Reported.{CleanUpFits, activatingReported, cleanedUp, failedPhase, phaseReported}
 
 -- ---- what a sound state meets
 
@@ -79,8 +79,8 @@ pub give-answered : (r r′ : Answered) (store : Store) → r ≡ r′ → outco
 give-answered r r′ store e = rw e
 
 -- in the manager's state that is known
-pub give-in : (s : State) (store : Store) (phase known : Phase) (good : Bool) (o : Outcome) → phase ≡ known → o ≡ reported s store known good
-    → o ≡ reported s store phase good
+pub give-in : (s : State) (store : Store) (phase known : Phase) (good : Bool) (o : Outcome) → phase ≡ known → o ≡ phaseReported s store known good
+    → o ≡ phaseReported s store phase good
 give-in s store phase known good o e f = rw e f
 
 -- after a clean-up
@@ -113,8 +113,8 @@ module _ (s : State) (store : Store) where
   -- a case for each row
   view-row : sound (viewState s) store ≡ true → length (s .session .beginning .clusters) ≡ clustersMost
       → (phase : Phase) (good : Bool) → allowed (viewPhase phase) (report good) ≡ true
-      → viewOutcome (reported s store phase good) ≡ step.reportOutcome (viewState s) store (viewPhase phase) good
-  unfolding reported step.reportOutcome allowed tables.runningIn
+      → viewOutcome (phaseReported s store phase good) ≡ step.reportOutcome (viewState s) store (viewPhase phase) good
+  unfolding phaseReported step.reportOutcome allowed tables.runningIn
   view-row ok long Activating good h =
       let few = session-fits s store ok in
       let fine = session-sound s store ok in
@@ -139,7 +139,7 @@ module _ (s : State) (store : Store) where
 
   pub view-reported : (good : Bool) → length (s .session .beginning .clusters) ≡ clustersMost
       → firstRefusal (refusals (viewState s) store (report good)) ≡ none
-      → viewOutcome (reported s store (s .phase) good) ≡ act (viewState s) store (report good)
+      → viewOutcome (phaseReported s store (s .phase) good) ≡ act (viewState s) store (report good)
   unfolding act
   view-reported good long h =
       view-row (accepted-sound (viewState s) store (report good) h) long (s .phase) good (accepted-allowed (viewState s) store (report good) h)

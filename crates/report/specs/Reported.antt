@@ -83,13 +83,13 @@ cleaningUpReported s store origin good =
 
 -- "Report(good or bad), from the machine." in a manager's state; "Report in Activating, Verifying, RollingBack and CleaningUp": in the
 -- other five it is refused by 3
-unfoldable pub reported : State → Store → Phase → Bool → Outcome
-reported s store Activating good = outcome (activatingReported s good (needsMet (viewTable (stagedTable (s .session))))) store
-reported s store Verifying good = outcome (verifyingReported s good) store
-reported s store (RollingBack origin) good = outcome (rollingBackReported s origin good) store
-reported s store (CleaningUp origin) good = cleaningUpReported s store origin good
-reported s store Idle good = outcome (refusedBy s 3) store
-reported s store Ready good = outcome (refusedBy s 3) store
-reported s store Processing good = outcome (refusedBy s 3) store
-reported s store Activated good = outcome (refusedBy s 3) store
-reported s store RolledBack good = outcome (refusedBy s 3) store
+unfoldable pub phaseReported : State → Store → Phase → Bool → Outcome
+phaseReported s store Activating good = outcome (activatingReported s good (needsMet (viewTable (stagedTable (s .session))))) store
+phaseReported s store Verifying good = outcome (verifyingReported s good) store
+phaseReported s store (RollingBack origin) good = outcome (rollingBackReported s origin good) store
+phaseReported s store (CleaningUp origin) good = cleaningUpReported s store origin good
+phaseReported s store Idle good = outcome (refusedBy s 3) store
+phaseReported s store Ready good = outcome (refusedBy s 3) store
+phaseReported s store Processing good = outcome (refusedBy s 3) store
+phaseReported s store Activated good = outcome (refusedBy s 3) store
+phaseReported s store RolledBack good = outcome (refusedBy s 3) store

@@ -32,7 +32,7 @@ ghost use Rattle.model.specs.Step.{step};
 ghost use Rattle.state.specs.View.{entriesMost, viewSession, viewState};
 ghost use Rattle.state.specs.Outcome.{outcome, viewOutcome, SoundIfAccepted, called, calledOnSound};
 ghost use Rattle.staging.specs.Staged.{stagedTable};
-ghost use Rattle.report.specs.Reported.{CleanUpFits, activatingReported, verifyingReported, rollbackPhase, rollingBackReported, cleanedUp, failedAnswer, failedPhase, cleaningUpReported, reported};
+ghost use Rattle.report.specs.Reported.{CleanUpFits, activatingReported, verifyingReported, rollbackPhase, rollingBackReported, cleanedUp, failedAnswer, failedPhase, cleaningUpReported, phaseReported};
 
 // In Activating, by the report and by whether all needs are met in the staged table.
 fn answer_activating(s: State, good: bool, met: bool) -> Answered
@@ -149,7 +149,7 @@ fn report_cleaning_up(s: State, store: &mut [u8], origin: CleanUpOrigin, good: b
 // Report in a manager's state, of a sound state. In the five that do not allow it, it is refused.
 fn report_in(s: State, store: &mut [u8], phase: Phase, good: bool) -> Answered
     requires { ⌜ soundFor (viewState s) (length (now store)) ≡ true ⌝ }
-    ensures { λ r. ⌜ outcome r (now (store .exit)) ≡ reported s (now (store .entry)) phase good ⌝ }
+    ensures { λ r. ⌜ outcome r (now (store .exit)) ≡ phaseReported s (now (store .entry)) phase good ⌝ }
 {
     match phase {
         Phase::Activating => report_activating(s, good),
@@ -167,7 +167,7 @@ fn report_in(s: State, store: &mut [u8], phase: Phase, good: bool) -> Answered
 // Report of a state that is known to be sound, which `report` checks.
 pub fn report_on_sound(s: State, store: &mut [u8], good: bool) -> Answered
     requires { ⌜ soundFor (viewState s) (length (now store)) ≡ true ⌝ }
-    ensures { λ r. ⌜ outcome r (now (store .exit)) ≡ calledOnSound s (now (store .entry)) (report good) (reported s (now (store .entry)) (s .phase) good) ⌝ }
+    ensures { λ r. ⌜ outcome r (now (store .exit)) ≡ calledOnSound s (now (store .entry)) (report good) (phaseReported s (now (store .entry)) (s .phase) good) ⌝ }
 {
     let phase = s.phase;
     if !allowed(phase, REPORT) {
@@ -179,7 +179,7 @@ pub fn report_on_sound(s: State, store: &mut [u8], good: bool) -> Answered
 // Report(good or bad), from the machine.
 pub fn report(s: State, store: &mut [u8], good: bool) -> Answered
     ensures meaning { λ r. ⌜ viewOutcome (outcome r (now (store .exit))) ≡ step (viewState s) (now (store .entry)) (report good) ⌝ }
-    ensures exact { λ r. ⌜ outcome r (now (store .exit)) ≡ called s (now (store .entry)) (report good) (reported s (now (store .entry)) (s .phase) good) ⌝ }
+    ensures exact { λ r. ⌜ outcome r (now (store .exit)) ≡ called s (now (store .entry)) (report good) (phaseReported s (now (store .entry)) (s .phase) good) ⌝ }
     ensures sound { λ r. ⌜ SoundIfAccepted (outcome r (now (store .exit))) ⌝ }
 {
     if !sound(s, store.len()) {

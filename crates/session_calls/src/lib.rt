@@ -1,6 +1,6 @@
 // The calls that move the manager's state and change nothing else: Revert, Activate, Rollback and Finish.
 pub mod activate;
 pub mod finish;
-pub mod moves;
+mod moves;
 pub mod revert;
 pub mod rollback;

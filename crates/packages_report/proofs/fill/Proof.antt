@@ -53,12 +53,12 @@ use denote.Triple.Table.{entered, cited}
 use denote.Triple.Walked.{says, Stays, stay-dropped, stay-slice, walkOf, goes-dropped, goes-slice, Walks, ends-at, walked, walk-meets}
 use denote.Exit.{yes}
 use Rattle.base.proofs.Counted.{unmapped}
-use Rattle.package_records.specs.declared.Record.{Record}
-use Rattle.package_records.specs.Records.{clearedRecord}
-use Rattle.package_records.proofs.Record as R
-use Rattle.package_records.proofs.Record.Laws as R′
-use Rattle.package_records.proofs.Records as U
-use Rattle.package_records.proofs.Records.Laws as U′
+use Rattle.packages_report.specs.declared.Record.{Record}
+use Rattle.packages_report.specs.Records.{clearedRecord}
+use Rattle.packages_report.proofs.Record as R
+use Rattle.packages_report.proofs.Record.Laws as R′
+use Rattle.packages_report.proofs.records.Records as U
+use Rattle.packages_report.proofs.records.Records.Laws as U′
 use Rattle.reading_reply.specs.declared.ReadingReply.{ReadingReply as Reply}
 use Rattle.reading_reply.proofs.ReadingReply as S
 use Rattle.reading_reply.proofs.ReadingReply.Laws as S′

@@ -1,7 +1,7 @@
 -- `report::report_in` meets its contract: a case for each manager's state. Assumes nothing.
 use borrow.Author.Needs.{needs}
 use Rattle.soundness.proofs.SoundSession.{session-fits, session-sound}
-use Rattle.report.specs.Reported.{reported}
+use Rattle.report.specs.Reported.{phaseReported}
 use Rattle.report.proofs.ReportLaws.{clean-up-fits, give-in, give-answered}
 use Rattle.report.proofs.report_in.Statement.{statement}
 use Rattle.report.proofs.report_in.Tie as tie
@@ -61,42 +61,42 @@ refused-requires-5 : tie.Need-refused-requires-5
 refused-requires-5 c κs = search needs
 
 returns : tie.Need-returns
-unfolding reported
+unfolding phaseReported
 returns c = search (give-in, give-answered)
 
 returns-2 : tie.Need-returns-2
-unfolding reported
+unfolding phaseReported
 returns-2 c = search (give-in, give-answered)
 
 returns-3 : tie.Need-returns-3
-unfolding reported
+unfolding phaseReported
 returns-3 c = search (give-in, give-answered)
 
 same-length : tie.Need-same-length
 same-length c = search needs
 
 returns-4 : tie.Need-returns-4
-unfolding reported
+unfolding phaseReported
 returns-4 c = search give-in
 
 returns-5 : tie.Need-returns-5
-unfolding reported
+unfolding phaseReported
 returns-5 c = search (give-in, give-answered)
 
 returns-6 : tie.Need-returns-6
-unfolding reported
+unfolding phaseReported
 returns-6 c = search (give-in, give-answered)
 
 returns-7 : tie.Need-returns-7
-unfolding reported
+unfolding phaseReported
 returns-7 c = search (give-in, give-answered)
 
 returns-8 : tie.Need-returns-8
-unfolding reported
+unfolding phaseReported
 returns-8 c = search (give-in, give-answered)
 
 returns-9 : tie.Need-returns-9
-unfolding reported
+unfolding phaseReported
 returns-9 c = search (give-in, give-answered)
 
 pub report-in-spec : {M : Type 1} → statement M

@@ -1,7 +1,7 @@
--- `packages_report::by_value::cleared_list` meets its contract. Assumes nothing.
+-- `replay_bench::packages_by_value::cleared_list` meets its contract. Assumes nothing.
 use borrow.Author.Needs.{needs}
-use Rattle.packages_report.proofs.by_value.cleared_list.Statement.{statement}
-use Rattle.packages_report.proofs.by_value.cleared_list.Tie as tie
+use Rattle.replay_bench.proofs.packages_by_value.cleared_list.Statement.{statement}
+use Rattle.replay_bench.proofs.packages_by_value.cleared_list.Tie as tie
 
 cleared-record-requires : tie.Need-cleared-record-requires
 cleared-record-requires c κs = search needs

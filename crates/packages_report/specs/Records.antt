@@ -9,8 +9,8 @@ use Rattle.state.specs.declared.package.Package.{Package}
 use Rattle.state.specs.declared.transfers.Transfers.{Transfers}
 use Rattle.state.specs.View.{viewPackageState}
 use Rattle.areas.specs.FirstPlaces.{putFirst}
-use Rattle.package_records.specs.declared.Record.{Record}
-use Rattle.package_records.specs.declared.Records.{Records}
+use Rattle.packages_report.specs.declared.Record.{Record}
+use Rattle.packages_report.specs.declared.records.Records.{Records}
 
 -- ---- as structs
 

@@ -1,4 +1,6 @@
 // The records of Packages: "records (id, size, received, state) in id order".
+use crate::Record;
+use crate::cleared_record;
 use state::limits::PACKAGES_MOST;
 use state::package::Package;
 use state::package::PackageState;
@@ -10,16 +12,9 @@ ghost use Rattle.model.specs.State.{packageStateNumber};
 ghost use Rattle.model.specs.Sound.{packagesMost};
 ghost use Rattle.model.specs.Reading.{packageRecord};
 ghost use Rattle.state.specs.View.{viewPackageState, viewPackages};
-ghost use Rattle.package_records.specs.Records.{recordOf, recordsOf, viewRecords};
+ghost use Rattle.packages_report.specs.Records.{recordOf, recordsOf, viewRecords};
 
-pub struct Record {
-    pub id: u32,
-    pub size: u32,
-    pub received: u32,
-    pub state: u32,
-}
-
-// The first count of the records count; the places behind them are 0.
+// The first count of the records count; the places behind them are cleared.
 pub struct Records {
     pub records: [Record; PACKAGES_MOST],
     pub count: usize,
@@ -55,12 +50,7 @@ pub fn records_of(t: Transfers) -> Records
     ensures exact { λ r. ⌜ r ≡ recordsOf t ⌝ }
 {
     let count = t.count;
-    let cleared = Record {
-        id: 0,
-        size: 0,
-        received: 0,
-        state: 0,
-    };
+    let cleared = cleared_record();
     let mut records = [cleared; PACKAGES_MOST];
     let mut i = 0;
     while i < count {

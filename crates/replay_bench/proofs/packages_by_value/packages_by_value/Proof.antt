@@ -1,4 +1,4 @@
--- `packages_report::by_value::packages_by_value` meets its contract: a walk of its MIR, by hand. The local list is laid out as its elements,
+-- `replay_bench::packages_by_value::packages_by_value` meets its contract: a walk of its MIR, by hand. The local list is laid out as its elements,
 -- of which the first are lent as a slice for a lifetime that the walk makes, and taken back at the last list that `packages` says.
 -- All that the proof knows of the functions called is that each meets its contract. Assumes nothing.
 use mathlib.Core.Path.{_≡_, refl, sym, ap, _∙_, subst}
@@ -58,40 +58,41 @@ use Rattle.state.specs.declared.state.State.{State}
 use Rattle.state.specs.View.{viewState}
 use Rattle.state.proofs.state.State as G
 use Rattle.state.proofs.state.State.Laws as G′
-use Rattle.package_records.specs.declared.Record.{Record}
-use Rattle.package_records.specs.Records.{clearedRecord}
-use Rattle.package_records.proofs.Record as R
-use Rattle.package_records.proofs.Record.Laws as R′
+use Rattle.packages_report.specs.declared.Record.{Record}
+use Rattle.packages_report.specs.Records.{clearedRecord}
+use Rattle.packages_report.proofs.Record as R
+use Rattle.packages_report.proofs.Record.Laws as R′
 use Rattle.reading_reply.specs.declared.ReadingReply.{ReadingReply as Reply}
 use Rattle.reading_reply.specs.Reply.{replyOf}
 use Rattle.reading_reply.proofs.ReadingReply as S
 use Rattle.reading_reply.proofs.ReadingReply.Laws as S′
-use Rattle.packages_report.specs.declared.by_value.PackagesByValue.{PackagesByValue}
-use Rattle.packages_report.specs.Packages.{listed, listMost, packagesReply, viewList, packagesGiven, roomWithin}
+use Rattle.replay_bench.specs.declared.packages_by_value.PackagesByValue.{PackagesByValue}
+use Rattle.packages_report.specs.Packages.{listed, packagesReply, viewList, packagesGiven}
+use Rattle.replay_bench.specs.LentList.{listMost, roomWithin}
 use Rattle.packages_report.proofs.PackagesArray.{packages-array}
-use Rattle.packages_report.proofs.Lent.{room-within-most, lent-given}
-use Rattle.packages_report.proofs.by_value.PackagesByValue as T
-use Rattle.packages_report.proofs.by_value.PackagesByValue.Laws as T′
-use Rattle.packages_report.proofs.by_value.cleared_list as cleared-list
-use Rattle.packages_report.proofs.by_value.cleared_list.Symbol as cleared-list-def
-use Rattle.packages_report.proofs.by_value.cleared_list.Symbol.{name as #cleared-list}
-use Rattle.packages_report.proofs.by_value.cleared_list.Met as cleared-list-thm
-use Rattle.packages_report.proofs.by_value.room_within as room-within
-use Rattle.packages_report.proofs.by_value.room_within.Symbol as room-within-def
-use Rattle.packages_report.proofs.by_value.room_within.Symbol.{name as #room-within}
-use Rattle.packages_report.proofs.by_value.room_within.Met as room-within-thm
+use Rattle.replay_bench.proofs.Lent.{room-within-most, lent-given}
+use Rattle.replay_bench.proofs.packages_by_value.PackagesByValue as T
+use Rattle.replay_bench.proofs.packages_by_value.PackagesByValue.Laws as T′
+use Rattle.replay_bench.proofs.packages_by_value.cleared_list as cleared-list
+use Rattle.replay_bench.proofs.packages_by_value.cleared_list.Symbol as cleared-list-def
+use Rattle.replay_bench.proofs.packages_by_value.cleared_list.Symbol.{name as #cleared-list}
+use Rattle.replay_bench.proofs.packages_by_value.cleared_list.Met as cleared-list-thm
+use Rattle.replay_bench.proofs.packages_by_value.room_within as room-within
+use Rattle.replay_bench.proofs.packages_by_value.room_within.Symbol as room-within-def
+use Rattle.replay_bench.proofs.packages_by_value.room_within.Symbol.{name as #room-within}
+use Rattle.replay_bench.proofs.packages_by_value.room_within.Met as room-within-thm
 use Rattle.packages_report.proofs.packages as packages
 use Rattle.packages_report.proofs.packages.Symbol as packages-def
 use Rattle.packages_report.proofs.packages.Symbol.{name as #packages}
 use Rattle.packages_report.proofs.packages.Met as packages-thm
-use Rattle.packages_report.proofs.by_value.with_list as with-list
-use Rattle.packages_report.proofs.by_value.with_list.Symbol as with-list-def
-use Rattle.packages_report.proofs.by_value.with_list.Symbol.{name as #with-list}
-use Rattle.packages_report.proofs.by_value.with_list.Met as with-list-thm
-use Rattle.packages_report.proofs.by_value.packages_by_value.Key.{name as #by-value}
-use Rattle.packages_report.proofs.by_value.packages_by_value as by-value
-use Rattle.packages_report.proofs.by_value.packages_by_value.Statement as stated
-use Rattle.packages_report.proofs.by_value.packages_by_value.Code as code
+use Rattle.replay_bench.proofs.packages_by_value.with_list as with-list
+use Rattle.replay_bench.proofs.packages_by_value.with_list.Symbol as with-list-def
+use Rattle.replay_bench.proofs.packages_by_value.with_list.Symbol.{name as #with-list}
+use Rattle.replay_bench.proofs.packages_by_value.with_list.Met as with-list-thm
+use Rattle.replay_bench.proofs.packages_by_value.packages_by_value.Key.{name as #by-value}
+use Rattle.replay_bench.proofs.packages_by_value.packages_by_value as by-value
+use Rattle.replay_bench.proofs.packages_by_value.packages_by_value.Statement as stated
+use Rattle.replay_bench.proofs.packages_by_value.packages_by_value.Code as code
 
 abbrev stayed : Stays (by-value.ended .signature .params) (by-value.ended .kept)
 stayed = (stay-dropped (plain (λ _. G.the-row)) yes, (stay-dropped (shrSliceOf (0 ∷ []) tt (plain (λ _. u8))) yes, (stay-dropped (plain (λ _. usize)) yes, tt)))
@@ -273,15 +274,15 @@ module _ {M : Type 1} (𝓤 : URA M) (H : Heap 𝓤) (A : Atoms 𝓤) (W : Given
 
     -- the call of `packages`, where the list is lent for the lifetime α
     abbrev to-packages : ℕ → Lft → GName → Packages 𝓤 H A mem′ run .Ghost
-    to-packages l α γ = (((α, (κ, tt)), (fullShare, (q, tt)), tt, (x l γ, (m, (store, tt))), (s l ∷ [], (mv ∷ [], (sv ∷ [], tt)))), tt)
+    to-packages l α γ = (((κ, (α, tt)), (q, (fullShare, tt)), tt, (m, (store, (x l γ, tt))), (mv ∷ [], (sv ∷ [], (s l ∷ [], tt)))), tt)
 
     goes-packages : (l : ℕ) (α : Lft) (γ : GName)
         → ent 𝓤 (⋆ 𝓤 H A (‵ (flft α fullShare) ∷ ‵ (fsep (MutSlice (named 0) α R.the-row .own (x l γ) (s l ∷ [])) (ShrSlice (named 0) κ u8 .own store (sv ∷ []))) ∷ (‵ (flft κ q) ⊛ ‵ ftrue) ∷ [])) (Packages 𝓤 H A mem′ run .pre (to-packages l α γ))
     goes-packages l α γ =
         qed W (‵ (flft α fullShare) ∷ ‵ (fsep (MutSlice (named 0) α R.the-row .own (x l γ) (s l ∷ [])) (ShrSlice (named 0) κ u8 .own store (sv ∷ []))) ∷ (‵ (flft κ q) ⊛ ‵ ftrue) ∷ []) ∵
-        move ! (1 ∷ []) $ fsplit ! $ nothing ! $ move ! (2 ∷ 0 ∷ []) $ fjoin ! $ owned ! G.the-row (Is G.the-row) ((LL.makes G.the-type G′.the-plain) 𝓤 H A) m _ is-m $ fjoin ! $ move ! (1 ∷ 0 ∷ []) $ fjoin ! $
+        move ! (1 ∷ []) $ fsplit ! $ nothing ! $ move ! (1 ∷ 0 ∷ []) $ fjoin ! $ move ! (1 ∷ 0 ∷ []) $ fjoin ! $ owned ! G.the-row (Is G.the-row) ((LL.makes G.the-type G′.the-plain) 𝓤 H A) m _ is-m $ fjoin ! $
         -- [what the arguments own; the list's token; the store's token]
-        move ! (1 ∷ 2 ∷ 0 ∷ []) $ join ! $ join ! $ frame ! $ done !
+        move ! (2 ∷ []) $ split ! $ move ! (3 ∷ 1 ∷ []) $ join ! $ move ! (1 ∷ 0 ∷ []) $ join ! $ join ! $ frame ! $ done !
 
     -- what `packages` says of its result and of the last list
     abbrev Meaning : Reply → List Record → Type 0
@@ -332,31 +333,31 @@ module _ {M : Type 1} (𝓤 : URA M) (H : Heap 𝓤) (A : Atoms 𝓤) (W : Given
         move ! (28 ∷ []) $ fsplit ! $ move ! (1 ∷ []) $ fsplit ! $ move ! (4 ∷ 0 ∷ []) $ fjoin ! $ move ! (3 ∷ 0 ∷ 29 ∷ []) $
         use3 W (raw (Packages 𝓤 H A mem′ run .pre (to-packages xs xv is₀ l₄ (α ∷ []) γ))) (goes-packages xs xv is₀ l₄ (α ∷ []) γ) $
         -- [the call; what room owns; what s owns; the lender's part; the other elements; what k owns; true; what xs owns; true; _9; …]
-        calls-at ! fm (Packages 𝓤 H A mem′ run) known-packages (to-packages xs xv is₀ l₄ (α ∷ []) γ) (and-then ! (load ! (from ! (stop !)) (look ! 9 refl)) (and-then ! (load ! (from ! (stop !)) (look ! 24 refl)) (and-then ! (load ! (from ! (stop !)) (look ! 22 refl)) (no-more !)))) (λ w.
-        use1 W (later (some (λ (r : Reply). ((‵ (flft (α ∷ []) fullShare) ⊛ (‵ (flft κ q) ⊛ ‵ ftrue)) ⊛ ‵ (S.the-row .own r (w ∷ []))) ⊛ raw (ensured 𝓤 H A packages.ended (packages.clauses 𝓤 H A mem′ run) ((α ∷ []), (κ, tt)) (x xs xv is₀ l₄ γ, (m, (store, tt))) tt r)))) (id⊢ 𝓤 _) $ await ! tt $ pick ! (λ r.
-        split ! $ move ! (1 ∷ []) $ use1 W (some (λ (zs : List Record × (Unit {0} × (Unit {0} × Unit {0}))). ‵ (lasts packages.ended ((α ∷ []), (κ, tt)) (x xs xv is₀ l₄ γ, (m, (store, tt))) zs) ⊛ (raw (fact 𝓤 (Meaning xs xv is₀ r (zs .0))) ⊛ raw (fact 𝓤 (Exact xs xv is₀ r (zs .0)))))) (id⊢ 𝓤 _) $ pick ! (λ zs.
-        split ! $ move ! (1 ∷ []) $ split ! $ heard ! (Meaning xs xv is₀ r (zs .0)) (λ e₂. heard ! (Exact xs xv is₀ r (zs .0)) (λ e₃. fsplit ! $ fsplit ! $ move ! (1 ∷ []) $ feqL ! (λ same.
+        calls-at ! fm (Packages 𝓤 H A mem′ run) known-packages (to-packages xs xv is₀ l₄ (α ∷ []) γ) (and-then ! (load ! (from ! (stop !)) (look ! 24 refl)) (and-then ! (load ! (from ! (stop !)) (look ! 22 refl)) (and-then ! (load ! (from ! (stop !)) (look ! 9 refl)) (no-more !)))) (λ w.
+        use1 W (later (some (λ (r : Reply). ((‵ (flft κ q) ⊛ (‵ (flft (α ∷ []) fullShare) ⊛ ‵ ftrue)) ⊛ ‵ (S.the-row .own r (w ∷ []))) ⊛ raw (ensured 𝓤 H A packages.ended (packages.clauses 𝓤 H A mem′ run) (κ, ((α ∷ []), tt)) (m, (store, (x xs xv is₀ l₄ γ, tt))) tt r)))) (id⊢ 𝓤 _) $ await ! tt $ pick ! (λ r.
+        split ! $ move ! (1 ∷ []) $ use1 W (some (λ (zs : Unit {0} × (Unit {0} × (List Record × Unit {0}))). ‵ (lasts packages.ended (κ, ((α ∷ []), tt)) (m, (store, (x xs xv is₀ l₄ γ, tt))) zs) ⊛ (raw (fact 𝓤 (Meaning xs xv is₀ r (zs .1 .1 .0))) ⊛ raw (fact 𝓤 (Exact xs xv is₀ r (zs .1 .1 .0)))))) (id⊢ 𝓤 _) $ pick ! (λ zs.
+        split ! $ move ! (1 ∷ []) $ split ! $ heard ! (Meaning xs xv is₀ r (zs .1 .1 .0)) (λ e₂. heard ! (Exact xs xv is₀ r (zs .1 .1 .0)) (λ e₃. fsplit ! $ drop ! $ fsplit ! $ drop ! $ fsplit ! $ fsplit ! $ move ! (1 ∷ []) $ feqL ! (λ same.
         move ! (2 ∷ []) $ split ! $ move ! (1 ∷ []) $ peeks ! S.the-row (Is S.the-row) (shows 𝓤 H A S.the-row) r (w ∷ []) (λ is₂.
         -- [the result; the tokens; the last list; true; what room owns; what s owns; the lender's part; the other elements; what k owns; true; what xs owns; true; _9; …; _8; …; _7; …; room for _6; …; _5; …; that list dies; …]
         land ! (from ! (stop !)) (init ! 18 {τ = S′.mir} refl (EL.lawful S.the-type S′.the-laws 𝓤 H A W tt .typed r _ is₂ .0)) $
         -- the lifetime is ended, and list is taken back
-        move ! (1 ∷ []) $ split ! $ lft-end ! tt $ move ! (0 ∷ 7 ∷ 3 ∷ []) $
-        use3 W (later (‵ (Arr (mem R.the-row) (length (take n xs)) .lies (zs .0) l₄ 0))) (slice-back 𝓤 H A W R.the-row (α ∷ []) γ (zs .0) (length (take n xs)) l₄ 0) $ await ! tt $ move ! (0 ∷ 6 ∷ []) $
-        use2 W (‵ (fat fullShare arr l₄ 0 (valOf (zs .0 ++ behind n xs))) ⊛ ‵ (Array R.the-row 64 .own (zs .0 ++ behind n xs) (valOf (zs .0 ++ behind n xs) ∷ []))) (joins 𝓤 H A W l₄ (length (take n xs)) (zs .0) (behind n xs) same (all-zs xs xv is₀ (zs .0) same)) $ split ! $ move ! (1 ∷ []) $
-        peeks ! (Array R.the-row 64) (Is (Array R.the-row 64)) (shows 𝓤 H A (Array R.the-row 64)) (zs .0 ++ behind n xs) (valOf (zs .0 ++ behind n xs) ∷ []) (λ is₃.
+        move ! (1 ∷ []) $ split ! $ move ! (1 ∷ []) $ split ! $ move ! (2 ∷ 1 ∷ []) $ join ! $ move ! (1 ∷ []) $ lft-end ! tt $ move ! (0 ∷ 7 ∷ 3 ∷ []) $
+        use3 W (later (‵ (Arr (mem R.the-row) (length (take n xs)) .lies (zs .1 .1 .0) l₄ 0))) (slice-back 𝓤 H A W R.the-row (α ∷ []) γ (zs .1 .1 .0) (length (take n xs)) l₄ 0) $ await ! tt $ move ! (0 ∷ 6 ∷ []) $
+        use2 W (‵ (fat fullShare arr l₄ 0 (valOf (zs .1 .1 .0 ++ behind n xs))) ⊛ ‵ (Array R.the-row 64 .own (zs .1 .1 .0 ++ behind n xs) (valOf (zs .1 .1 .0 ++ behind n xs) ∷ []))) (joins 𝓤 H A W l₄ (length (take n xs)) (zs .1 .1 .0) (behind n xs) same (all-zs xs xv is₀ (zs .1 .1 .0) same)) $ split ! $ move ! (1 ∷ []) $
+        peeks ! (Array R.the-row 64) (Is (Array R.the-row 64)) (shows 𝓤 H A (Array R.the-row 64)) (zs .1 .1 .0 ++ behind n xs) (valOf (zs .1 .1 .0 ++ behind n xs) ∷ []) (λ is₃.
         -- [what the last list owns; list; the token; what the result owns; true; what room owns; what s owns; what k owns; true; what xs owns; true; _9; …; _8; …; _7; …; _6; …; _5; …; that list dies; room; …; store; …; s; …; room for _0; …]
-        assigns ! (of-opd ! (load ! (from ! (stop !)) (look ! 1 refl))) (from ! (stop !)) (stored ! 15 refl (typed 𝓤 H A W l₇ (zs .0 ++ behind n xs) _ is₃)) $
-        move ! (3 ∷ 0 ∷ []) $ use2 W (raw (WithList 𝓤 H A mem′ run .pre (to-list r w (zs .0 ++ behind n xs)))) (goes-list r w (zs .0 ++ behind n xs)) $
-        calls-at ! fm (WithList 𝓤 H A mem′ run) known-list (to-list r w (zs .0 ++ behind n xs)) (and-then ! (load ! (from ! (stop !)) (look ! 16 refl)) (and-then ! (load ! (from ! (stop !)) (look ! 14 refl)) (no-more !))) (λ v.
-        use1 W (later (some (λ (t : PackagesByValue). (‵ ftrue ⊛ ‵ (T.the-row .own t (v ∷ []))) ⊛ raw (ensured 𝓤 H A with-list.ended (with-list.clauses 𝓤 H A mem′ run) tt (r, (zs .0 ++ behind n xs, tt)) tt t)))) (id⊢ 𝓤 _) $ await ! tt $ pick ! (λ t.
-        split ! $ move ! (1 ∷ []) $ use1 W (raw (fact 𝓤 ((t .answer ≡ r) × (t .list ≡ zs .0 ++ behind n xs)))) (list-said r (zs .0 ++ behind n xs) t) $ heard ! ((t .answer ≡ r) × (t .list ≡ zs .0 ++ behind n xs)) (λ e₄. split ! $ move ! (1 ∷ []) $
+        assigns ! (of-opd ! (load ! (from ! (stop !)) (look ! 1 refl))) (from ! (stop !)) (stored ! 15 refl (typed 𝓤 H A W l₇ (zs .1 .1 .0 ++ behind n xs) _ is₃)) $
+        move ! (3 ∷ 0 ∷ []) $ use2 W (raw (WithList 𝓤 H A mem′ run .pre (to-list r w (zs .1 .1 .0 ++ behind n xs)))) (goes-list r w (zs .1 .1 .0 ++ behind n xs)) $
+        calls-at ! fm (WithList 𝓤 H A mem′ run) known-list (to-list r w (zs .1 .1 .0 ++ behind n xs)) (and-then ! (load ! (from ! (stop !)) (look ! 16 refl)) (and-then ! (load ! (from ! (stop !)) (look ! 14 refl)) (no-more !))) (λ v.
+        use1 W (later (some (λ (t : PackagesByValue). (‵ ftrue ⊛ ‵ (T.the-row .own t (v ∷ []))) ⊛ raw (ensured 𝓤 H A with-list.ended (with-list.clauses 𝓤 H A mem′ run) tt (r, (zs .1 .1 .0 ++ behind n xs, tt)) tt t)))) (id⊢ 𝓤 _) $ await ! tt $ pick ! (λ t.
+        split ! $ move ! (1 ∷ []) $ use1 W (raw (fact 𝓤 ((t .answer ≡ r) × (t .list ≡ zs .1 .1 .0 ++ behind n xs)))) (list-said r (zs .1 .1 .0 ++ behind n xs) t) $ heard ! ((t .answer ≡ r) × (t .list ≡ zs .1 .1 .0 ++ behind n xs)) (λ e₄. split ! $ move ! (1 ∷ []) $
         peeks ! T.the-row (Is T.the-row) (shows 𝓤 H A T.the-row) t (v ∷ []) (λ is₄.
         -- [the result; true; list; the token; true; what room owns; what s owns; what k owns; true; what xs owns; true; _9; …; _8; …; _7; …; _6; …; _5; …; that list dies; room; …; store; …; s; …; room for _0; …]
         land ! (from ! (stop !)) (init ! 28 {τ = T′.mir} refl (LL.lawful T.the-type T′.the-laws 𝓤 H A W .typed t _ is₄ .0)) $
         returns ! (look ! 28 refl) $ forget ! 2 refl $ forget ! 11 refl $ forget ! 13 refl $ forget ! 15 refl $ forget ! 17 refl $ forget ! 19 refl $ forget ! 22 refl $ forget ! 24 refl $ forget ! 26 refl $ forget ! 28 refl $
         move ! (28 ∷ 29 ∷ []) $ free1 ! $ move ! (26 ∷ 27 ∷ []) $ free1 ! $ move ! (24 ∷ 25 ∷ []) $ free1 ! $ move ! (22 ∷ 23 ∷ []) $ free1 ! $ move ! (2 ∷ 21 ∷ []) $ free1 ! $
         move ! (18 ∷ 19 ∷ []) $ free1 ! $ move ! (16 ∷ 17 ∷ []) $ free1 ! $ move ! (14 ∷ 15 ∷ []) $ free1 ! $ move ! (12 ∷ 13 ∷ []) $ free1 ! $ move ! (10 ∷ 11 ∷ []) $ free1 ! $ free0 ! $
-        keep ! (2 ∷ 0 ∷ []) $ by ! (concludes xs xv is₀ e₀ r (zs .0) e₂ e₃ t v (e₄ .0) (e₄ .1))))))))))))))))))))))))))))))))))
+        keep ! (2 ∷ 0 ∷ []) $ by ! (concludes xs xv is₀ e₀ r (zs .1 .1 .0) e₂ e₃ t v (e₄ .0) (e₄ .1))))))))))))))))))))))))))))))))))
 
 module _ {M : Type 1} (𝓤 : URA M) (H : Heap 𝓤) (A : Atoms 𝓤) (W : Given 𝓤 H A) (mem′ : Memory → SProp 𝓤) (run : Routine → Fun 𝓤) where
   by-value-walks : (C : Calls 𝓤 H) (Λ : Loops 𝓤 H) → FmC 𝓤 H (W .laws) C → Triple 𝓤 (C #cleared-list) (ClearedList 𝓤 H A mem′ run) → Triple 𝓤 (C #room-within) (RoomWithin 𝓤 H A mem′ run) → Triple 𝓤 (C #packages) (Packages 𝓤 H A mem′ run) → Triple 𝓤 (C #with-list) (WithList 𝓤 H A mem′ run)
@@ -378,7 +379,7 @@ packages-by-value-spec 𝓤 H 𝓜 𝓖 𝓡 =
     entered 𝓤 H (tripleOf 𝓤 H (𝓖 .A) by-value.signature (by-value.spec 𝓤 H (𝓖 .A) (𝓜 .mem) (𝓡 .run)))
     (tables 𝓤 H 𝓜 𝓡 code.env .C) (tables 𝓤 H 𝓜 𝓡 code.env .Λ) #by-value code.function (code.unfolded 𝓤 H 𝓜 𝓡)
     (by-value-meets 𝓤 H (𝓖 .A) (givenOf 𝓤 H 𝓜 𝓖) (𝓜 .mem) (𝓡 .run) (tablesOf 𝓤 H 𝓜 (tables 𝓤 H 𝓜 𝓡 code.env))
-    (cited 𝓤 H (ClearedList 𝓤 H (𝓖 .A) (𝓜 .mem) (𝓡 .run)) 𝓜 𝓡 code.env #cleared-list cleared-list-def.routine code.calls-packages-report·by-value·cleared-list (cleared-list-thm.met 𝓤 H 𝓜 𝓖 𝓡))
-    (cited 𝓤 H (RoomWithin 𝓤 H (𝓖 .A) (𝓜 .mem) (𝓡 .run)) 𝓜 𝓡 code.env #room-within room-within-def.routine code.calls-packages-report·by-value·room-within (room-within-thm.met 𝓤 H 𝓜 𝓖 𝓡))
+    (cited 𝓤 H (ClearedList 𝓤 H (𝓖 .A) (𝓜 .mem) (𝓡 .run)) 𝓜 𝓡 code.env #cleared-list cleared-list-def.routine code.calls-replay-bench·packages-by-value·cleared-list (cleared-list-thm.met 𝓤 H 𝓜 𝓖 𝓡))
+    (cited 𝓤 H (RoomWithin 𝓤 H (𝓖 .A) (𝓜 .mem) (𝓡 .run)) 𝓜 𝓡 code.env #room-within room-within-def.routine code.calls-replay-bench·packages-by-value·room-within (room-within-thm.met 𝓤 H 𝓜 𝓖 𝓡))
     (cited 𝓤 H (Packages 𝓤 H (𝓖 .A) (𝓜 .mem) (𝓡 .run)) 𝓜 𝓡 code.env #packages packages-def.routine code.calls-packages-report·packages (packages-thm.met 𝓤 H 𝓜 𝓖 𝓡))
-    (cited 𝓤 H (WithList 𝓤 H (𝓖 .A) (𝓜 .mem) (𝓡 .run)) 𝓜 𝓡 code.env #with-list with-list-def.routine code.calls-packages-report·by-value·with-list (with-list-thm.met 𝓤 H 𝓜 𝓖 𝓡)))
+    (cited 𝓤 H (WithList 𝓤 H (𝓖 .A) (𝓜 .mem) (𝓡 .run)) 𝓜 𝓡 code.env #with-list with-list-def.routine code.calls-replay-bench·packages-by-value·with-list (with-list-thm.met 𝓤 H 𝓜 𝓖 𝓡)))

@@ -13,12 +13,13 @@ use Rattle.model.specs.Sound.{packagesMost}
 use Rattle.model.specs.Reading.{ReadingReply, refusedBy, shortBuffer, given, Report, PackageRecord, packageRecords, packagesReport, reportOf, reportReply, reportBuffer}
 use Rattle.state.specs.declared.state.State.{State}
 use Rattle.state.specs.View.{viewState}
-use Rattle.package_records.specs.declared.Record.{Record}
-use Rattle.package_records.specs.Records.{viewRecord}
+use Rattle.packages_report.specs.declared.Record.{Record}
+use Rattle.packages_report.specs.Records.{viewRecord}
 use Rattle.reading_reply.specs.declared.ReadingReply.{ReadingReply as Reply}
 use Rattle.reading_reply.specs.Reply.{replyOf}
-use Rattle.packages_report.specs.Packages.{listed, listMost, packagesReply, viewList, packagesGiven, roomWithin}
+use Rattle.packages_report.specs.Packages.{listed, packagesReply, viewList, packagesGiven}
 use Rattle.packages_report.proofs.Reported.{Fits, fits}
+use Rattle.replay_bench.specs.LentList.{listMost, roomWithin}
 
 pub room-within-most : (room : ℕ) → roomWithin room ≤ listMost
 room-within-most room = cond-cases (λ (n : ℕ). n ≤ listMost) (ltb listMost room) listMost room (λ e. omega arith) (ltb-false listMost room)

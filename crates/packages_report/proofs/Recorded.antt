@@ -14,9 +14,9 @@ use Rattle.state.specs.View.{viewPackage, clearedPackage, viewPackages}
 use Rattle.state.proofs.Views.{packages-few}
 use Rattle.areas.specs.FirstPlaces.{putFirst}
 use Rattle.areas.proofs.FirstPlaces.{take-first}
-use Rattle.package_records.specs.declared.Record.{Record}
-use Rattle.package_records.specs.declared.Records.{Records}
-use Rattle.package_records.specs.Records.{recordOf, clearedRecord, recordsOf, viewRecord, viewRecords}
+use Rattle.packages_report.specs.declared.Record.{Record}
+use Rattle.packages_report.specs.declared.records.Records.{Records}
+use Rattle.packages_report.specs.Records.{recordOf, clearedRecord, recordsOf, viewRecord, viewRecords}
 
 -- of the first i packages, with every place behind them cleared
 abbrev pub firstRecords : ℕ → List Package → List Record

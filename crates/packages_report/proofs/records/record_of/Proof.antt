@@ -1,7 +1,7 @@
--- `package_records::record_of` meets its contract. Assumes nothing.
+-- `packages_report::records::record_of` meets its contract. Assumes nothing.
 use borrow.Author.Needs.{needs}
-use Rattle.package_records.proofs.record_of.Statement.{statement}
-use Rattle.package_records.proofs.record_of.Tie as tie
+use Rattle.packages_report.proofs.records.record_of.Statement.{statement}
+use Rattle.packages_report.proofs.records.record_of.Tie as tie
 
 state-number-requires : tie.Need-state-number-requires
 state-number-requires c κs = search needs

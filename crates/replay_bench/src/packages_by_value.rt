@@ -1,16 +1,17 @@
-// Packages for a caller that has no list to lend: the records come back by value.
-use crate::packages;
-use crate::report::cleared_record;
-use package_records::Record;
+// Packages into a list of the bench's own, which comes back by value.
+use packages_report::Record;
+use packages_report::cleared_record;
+use packages_report::packages;
 use reading_reply::ReadingReply;
 use state::state::State;
 ghost use mathlib.Core.Path.{_≡_};
 ghost use lib.ListN.{replicate};
 ghost use Rattle.model.specs.Reading.{reportBuffer};
 ghost use Rattle.state.specs.View.{viewState};
-ghost use Rattle.package_records.specs.Records.{clearedRecord};
 ghost use Rattle.reading_reply.specs.Reply.{replyOf};
-ghost use Rattle.packages_report.specs.Packages.{listed, listMost, packagesReply, roomWithin};
+ghost use Rattle.packages_report.specs.Records.{clearedRecord};
+ghost use Rattle.packages_report.specs.Packages.{listed, packagesReply};
+ghost use Rattle.replay_bench.specs.LentList.{listMost, roomWithin};
 
 // The room of the list.
 pub const LIST_MOST: usize = 64;
@@ -56,6 +57,6 @@ pub fn packages_by_value(s: State, store: &[u8], room: usize) -> PackagesByValue
 {
     let mut list = cleared_list();
     let lent = room_within(room);
-    let answer = packages(&mut list[..lent], s, store);
+    let answer = packages(s, store, &mut list[..lent]);
     with_list(answer, list)
 }

@@ -11,6 +11,9 @@ pub struct Sums {
     pub c1: u32,
 }
 
+// "sum 0 to 65,535": the largest sum that a package may declare, the one place in the code that has this limit.
+pub const SUM_MOST: u32 = 65535;
+
 // The pair that a sum starts with.
 pub fn start() -> Sums
     ensures { λ r. ⌜ r ≡ startSums ⌝ }

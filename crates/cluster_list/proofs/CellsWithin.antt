@@ -1,11 +1,11 @@
 -- A part number and a need that were read are within the limits. Assumes nothing.
-use mathlib.Core.Path.{_≡_, refl, subst}
+use mathlib.Core.Path.{_≡_, refl, sym, ap, subst, _∙_}
 use mathlib.Core.Bool.{true}
-use mathlib.Core.List.{List}
+use mathlib.Core.List.{List, [], _∷_}
 use Prim.Native.Nat.{ℕ}
 use lib.Dec.{leb, ltb}
 use borrow.Author.Tests.{ltb-false, le-leb}
-use Rattle.base.proofs.Tests.{and-both, cond-cases}
+use Rattle.base.proofs.Tests.{and-left, and-both, cond-cases}
 use Rattle.text.specs.declared.cursor.Cursor.{Cursor}
 use Rattle.text.specs.declared.number.Number.{Number}
 use Rattle.text.specs.declared.number.Number.the-variants as number
@@ -15,10 +15,12 @@ use Rattle.text.proofs.ThenLaws.{then-cases, then-cases-version}
 use Rattle.text.proofs.Meaning.{whole-number-most, whole-version-limits}
 use Rattle.rows.specs.Field.{isEmpty}
 use Rattle.clusters.specs.declared.cluster.Need.{Need}
-use Rattle.clusters.specs.Cluster.{partWithin, needWithin}
+use Rattle.clusters.specs.Cluster.{need, partWithin, needWithin, needsWithin}
+use Rattle.cluster_list.specs.declared.cells.OptionalNeed.{OptionalNeed}
+use Rattle.cluster_list.specs.declared.cells.OptionalNeed.the-variants.{Filled}
 use Rattle.cluster_list.specs.declared.cells.NeedRead.{NeedRead}
-use Rattle.cluster_list.specs.declared.cells.NeedRead.the-variants.{Filled, Empty, IllFormed}
-use Rattle.cluster_list.specs.Cells.{partField, needOf}
+use Rattle.cluster_list.specs.declared.cells.NeedRead.the-variants.{Value, IllFormed}
+use Rattle.cluster_list.specs.Cells.{partField, needOf, needsFilled}
 
 -- ---- a part number
 
@@ -39,17 +41,25 @@ part-read-within w part next e = subst PartWithin e (part-within w)
 -- ---- a need
 
 abbrev NeedReadWithin : NeedRead → Type 0
-NeedReadWithin (Filled n) = needWithin n ≡ true
-NeedReadWithin Empty = Unit {0}
+NeedReadWithin (Value need next) = needsWithin (needsFilled need) ≡ true
 NeedReadWithin IllFormed = Unit {0}
 
 need-within : (needs least : List ℕ) → NeedReadWithin (needOf needs least)
-unfolding needOf needWithin
+unfolding needOf needWithin needsWithin
 need-within needs least =
-    cond-cases NeedReadWithin (isEmpty needs) _ _ (λ b. cond-cases NeedReadWithin (isEmpty least) _ _ (λ c. tt) λ c. tt)
+    cond-cases NeedReadWithin (isEmpty needs) _ _ (λ b. cond-cases NeedReadWithin (isEmpty least) _ _ (λ c. refl) λ c. tt)
     λ b. then-cases NeedReadWithin IllFormed (partField needs) _ tt λ part behind e.
     then-cases-version NeedReadWithin IllFormed (wholeVersion least) _ tt λ version next f.
-    and-both (partWithin part) _ (part-read-within needs part behind e) (whole-version-limits least version next _ refl f)
+    and-both (needWithin (need part version)) true
+    (and-both (partWithin part) _ (part-read-within needs part behind e) (whole-version-limits least version next _ refl f)) refl
 
-pub need-read-within : (needs least : List ℕ) (n : Need) → needOf needs least ≡ Filled n → needWithin n ≡ true
-need-read-within needs least n e = subst NeedReadWithin e (need-within needs least)
+pub needs-read-within : (needs least : List ℕ) (n : OptionalNeed) (next : Cursor) → needOf needs least ≡ Value n next
+    → needsWithin (needsFilled n) ≡ true
+needs-read-within needs least n next e = subst NeedReadWithin e (need-within needs least)
+
+pub need-read-within : (needs least : List ℕ) (read : OptionalNeed) (next : Cursor) → needOf needs least ≡ Value read next
+    → (n : Need) → read ≡ Filled n → needWithin n ≡ true
+unfolding needsWithin
+need-read-within needs least read next e n f =
+    let h : needsWithin (n ∷ []) ≡ true = ap (λ (r : OptionalNeed). needsWithin (needsFilled r)) (sym f) ∙ needs-read-within needs least read next e in
+    and-left (needWithin n) true h

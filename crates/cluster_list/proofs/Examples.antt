@@ -10,12 +10,14 @@ use Rattle.base.proofs.Tables.{_gives_, AllHold, inLines}
 use Rattle.text.specs.declared.version.Version.{Version}
 use Rattle.text.specs.Version.{version}
 use Rattle.text.specs.Digits.{digits}
+use Rattle.text.specs.Number.{cursor}
 use Rattle.text.specs.Then.{andThen}
 use Rattle.clusters.specs.declared.cluster.Need.{Need}
 use Rattle.clusters.specs.Cluster.{Cluster}
 use Rattle.clusters.specs.Table.{Table}
 use Rattle.cluster_list.specs.declared.cells.NeedRead.{NeedRead}
-use Rattle.cluster_list.specs.declared.cells.NeedRead.the-variants.{Filled, Empty, IllFormed}
+use Rattle.cluster_list.specs.declared.cells.NeedRead.the-variants.{Value, IllFormed}
+use Rattle.cluster_list.specs.declared.cells.OptionalNeed.the-variants.{Filled, Empty}
 use Rattle.cluster_list.specs.Cells.{partField, needOf}
 use Rattle.cluster_list.specs.Read.{andThenSome, readList}
 use Rattle.cluster_list.specs.Write.{writeList}
@@ -42,7 +44,7 @@ clustersOf lines = clustersIn (inLines ("cluster,version,needs,least" ∷ lines)
 
 -- "a part number 1 to 4,294,967,295"
 abbrev partOf : String → Option ℕ
-partOf text = andThen none (partField (bytes text)) λ part next. some part
+partOf text = andThen none (partField (bytes text)) λ part _. some part
 
 parts-computed : AllHold partOf
     ("0" gives none
@@ -61,9 +63,9 @@ abbrev needIn : String × String → NeedRead
 needIn fields = needOf (bytes (fields .0)) (bytes (fields .1))
 
 needs-computed : AllHold needIn
-    (("20", "1.0.4.0") gives Filled (need 20 (version 1 0 4 0))
-    ∷ ("4294967295", "0.0.0.0") gives Filled (need 4294967295 (version 0 0 0 0))
-    ∷ ("", "") gives Empty
+    (("20", "1.0.4.0") gives Value (Filled (need 20 (version 1 0 4 0))) (cursor 7)
+    ∷ ("4294967295", "0.0.0.0") gives Value (Filled (need 4294967295 (version 0 0 0 0))) (cursor 7)
+    ∷ ("", "") gives Value Empty (cursor 0)
     ∷ ("20", "") gives IllFormed
     ∷ ("", "1.0.4.0") gives IllFormed
     ∷ ("0", "1.0.4.0") gives IllFormed

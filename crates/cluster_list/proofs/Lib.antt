@@ -1,4 +1,5 @@
 pub mod ThenLaws
+pub mod FirstNeed
 pub mod Last
 pub mod RoundTrip
 pub mod CellsWithin

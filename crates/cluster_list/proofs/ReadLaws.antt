@@ -3,7 +3,7 @@
 use Prim.Native.Nat.{ℕ, zero, suc, _+_, _-_, _≤_, _<_}
 use mathlib.Core.Path.{_≡_, refl, sym, ap, subst, _∙_}
 use mathlib.Core.Bool.{cond}
-use mathlib.Core.List.{List, [], _∷_}
+use mathlib.Core.List.{List, []}
 use mathlib.Core.Option.{Option, none, some}
 use native.Mathlib.Omega.{arith}
 use lib.ListN.{length, drop}
@@ -29,21 +29,24 @@ use Rattle.rows.proofs.LineBounds.{line-at-after}
 use Rattle.clusters.specs.declared.cluster.Need.{Need}
 use Rattle.clusters.specs.declared.cluster.Cluster.{Cluster as ClusterStruct}
 use Rattle.clusters.specs.declared.table.Table.{Table as TableStruct}
-use Rattle.clusters.specs.Cluster.{Cluster, cluster, needsMost}
+use Rattle.clusters.specs.Cluster.{Cluster, cluster}
 use Rattle.clusters.specs.Table.{Table, risingAbove, tableWithin}
 use Rattle.clusters.specs.View.{viewCluster, viewTable}
 use Rattle.clusters.specs.Struct.{structCluster, structTable}
-use Rattle.clusters.specs.Exact.{newCluster, withNeed, emptyTable}
-use Rattle.clusters.proofs.Structs.{struct-new-cluster, struct-with-need, struct-empty, view-struct-cluster, view-struct}
+use Rattle.clusters.specs.Exact.{emptyTable}
+use Rattle.clusters.proofs.Structs.{struct-empty, view-struct-cluster, view-struct}
+use Rattle.cluster_list.specs.declared.cells.OptionalNeed.{OptionalNeed}
+use Rattle.cluster_list.specs.declared.cells.OptionalNeed.the-variants as optional
 use Rattle.cluster_list.specs.declared.cells.NeedRead.{NeedRead}
 use Rattle.cluster_list.specs.declared.cells.NeedRead.the-variants as need
 use Rattle.cluster_list.specs.declared.read.ListRead.{ListRead}
 use Rattle.cluster_list.specs.declared.read.ListAnswer.the-variants.{WellFormed, IllFormed}
-use Rattle.cluster_list.specs.Cells.{partField, andThenNeed}
+use Rattle.cluster_list.specs.Cells.{partField, andThenNeed, andThenFilled, needsFilled}
 use Rattle.cluster_list.specs.Read.{andThenSome, clusterAdded, needLine, clusterBegun, clusterLine, valueLine, valueLines, listRead, Built}
 use Rattle.rows.proofs.Empty.{no-byte, some-byte}
 use Rattle.cluster_list.proofs.Within.{Within, value-line-within}
 use Rattle.cluster_list.proofs.Built.{built-struct}
+use Rattle.cluster_list.proofs.FirstNeed.{few-filled}
 
 -- ---- chains
 
@@ -62,15 +65,19 @@ module _ (r : ListRead) where
     pub read-on-version : (v : Version) (next : Cursor) → x ≡ version.Value v next → r ≡ listRead (f v next) → r ≡ listRead (andThenVersion none y f)
     read-on-version v next h g = rw (← e, h) g
 
-  module _ (empty : Option Table) (x y : NeedRead) (f : Need → Option Table) (e : x ≡ y) where
-    pub read-stop-need : x ≡ need.IllFormed → r ≡ listRead none → r ≡ listRead (andThenNeed none empty y f)
+  module _ (x y : NeedRead) (f : OptionalNeed → Cursor → Option Table) (e : x ≡ y) where
+    pub read-stop-need : x ≡ need.IllFormed → r ≡ listRead none → r ≡ listRead (andThenNeed none y f)
     read-stop-need h g = rw (← e, h) g
 
-    pub read-empty-need : x ≡ need.Empty → r ≡ listRead empty → r ≡ listRead (andThenNeed none empty y f)
-    read-empty-need h g = rw (← e, h) g
+    pub read-on-need : (n : OptionalNeed) (next : Cursor) → x ≡ need.Value n next → r ≡ listRead (f n next) → r ≡ listRead (andThenNeed none y f)
+    read-on-need n next h g = rw (← e, h) g
 
-    pub read-on-need : (n : Need) → x ≡ need.Filled n → r ≡ listRead (f n) → r ≡ listRead (andThenNeed none empty y f)
-    read-on-need n h g = rw (← e, h) g
+  module _ (n : OptionalNeed) (f : Need → Option Table) where
+    pub read-empty : n ≡ optional.Empty → r ≡ listRead none → r ≡ listRead (andThenFilled none n f)
+    read-empty h g = rw h g
+
+    pub read-filled : (m : Need) → n ≡ optional.Filled m → r ≡ listRead (f m) → r ≡ listRead (andThenFilled none n f)
+    read-filled m h g = rw h g
 
   module _ (x y : Line) (f : ℕ → Option Table) (e : x ≡ y) where
     pub read-stop-line : x ≡ line.IllFormed → r ≡ listRead none → r ≡ listRead (andThenLine none y f)
@@ -94,48 +101,18 @@ part-of-cell x w v e f = e ∙ ap partField f
 pub version-of-cell : (x : VersionRead) (w v : List ℕ) → x ≡ wholeVersion w → w ≡ v → x ≡ wholeVersion v
 version-of-cell x w v e f = e ∙ ap wholeVersion f
 
--- ---- a cluster without a need, and with its first
+-- ---- a cluster with its first need or without one
 
-pub begun-with : (r : ListRead) (t : Table) (part : ℕ) (version : Version) (x y : NeedRead) → r ≡ listRead (clusterBegun t part version x) → x ≡ y
-    → r ≡ listRead (clusterBegun t part version y)
-begun-with r t part version x y e f = e ∙ ap (λ (z : NeedRead). listRead (clusterBegun t part version z)) f
+module _ (part : ℕ) (version : Version) (need : OptionalNeed) (x : ClusterStruct) (e : x ≡ structCluster (cluster part version (needsFilled need))) where
+  begun-view : viewCluster x ≡ cluster part version (needsFilled need)
+  begun-view = ap viewCluster e ∙ view-struct-cluster (cluster part version (needsFilled need)) (omega (arith, few-filled need))
 
-built-cluster : (x : ClusterStruct) (c : Cluster) → length (c .needs) ≤ needsMost → x ≡ structCluster c → viewCluster x ≡ c
-built-cluster x c h e = ap viewCluster e ∙ view-struct-cluster c h
+  pub begun-built : x ≡ structCluster (viewCluster x)
+  begun-built = e ∙ ap structCluster (sym begun-view)
 
-module _ (part : ℕ) (version : Version) (x : ClusterStruct) (e : x ≡ newCluster part version) where
-  new-struct : x ≡ structCluster (cluster part version [])
-  new-struct = e ∙ struct-new-cluster part version
-
-  new-view : viewCluster x ≡ cluster part version []
-  new-view = built-cluster x (cluster part version []) (omega arith) new-struct
-
-  pub new-room : x .«need_count» < 4
-  unfolding newCluster
-  new-room = rw e (omega arith)
-
-  pub new-built : x ≡ structCluster (viewCluster x)
-  new-built = new-struct ∙ ap structCluster (sym new-view)
-
-  pub new-added : (r : ListRead) (t : Table) → r ≡ listRead (clusterAdded t (viewCluster x))
-      → r ≡ listRead (clusterAdded t (cluster part version []))
-  new-added r t f = f ∙ ap (λ (c : Cluster). listRead (clusterAdded t c)) new-view
-
-  module _ (n : Need) (y : ClusterStruct) (d : y ≡ withNeed x n) where
-    first-struct : y ≡ structCluster (cluster part version (n ∷ []))
-    first-struct =
-        d ∙ ap (λ (z : ClusterStruct). withNeed z n) new-struct
-        ∙ struct-with-need (cluster part version []) n (omega arith)
-
-    first-view : viewCluster y ≡ cluster part version (n ∷ [])
-    first-view = built-cluster y (cluster part version (n ∷ [])) (omega arith) first-struct
-
-    pub first-built : y ≡ structCluster (viewCluster y)
-    first-built = first-struct ∙ ap structCluster (sym first-view)
-
-    pub first-added : (r : ListRead) (t : Table) → r ≡ listRead (clusterAdded t (viewCluster y))
-        → r ≡ listRead (clusterAdded t (cluster part version (n ∷ [])))
-    first-added r t f = f ∙ ap (λ (c : Cluster). listRead (clusterAdded t c)) first-view
+  pub begun : (r : ListRead) (t : Table) → r ≡ listRead (clusterAdded t (viewCluster x)) → r ≡ listRead (clusterBegun t part version need)
+  unfolding clusterBegun
+  begun r t f = f ∙ ap (λ (c : Cluster). listRead (clusterAdded t c)) begun-view
 
 -- ---- the two kinds of line: w and v are the fields cluster and version
 
@@ -153,7 +130,7 @@ module _ (columns : ClusterColumns) (l : List ℕ) (t : Table) (r : ListRead) (w
     unfolding valueLine
     by-neither o g = rw (← e, ← d, no-byte w h, no-byte v o) g
 
-pub ruleset read-chain = (read-stop, read-on, read-stop-version, read-on-version, read-stop-need, read-empty-need, read-on-need, read-stop-line, read-on-line, read-stop-columns, read-on-columns, part-of-cell, version-of-cell, begun-with, new-added, first-added)
+pub ruleset read-chain = (read-stop, read-on, read-stop-version, read-on-version, read-stop-need, read-on-need, read-empty, read-filled, read-stop-line, read-on-line, read-stop-columns, read-on-columns, part-of-cell, version-of-cell)
 
 -- ---- one line after the other
 

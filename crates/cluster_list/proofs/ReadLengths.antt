@@ -36,9 +36,10 @@ use Rattle.clusters.specs.Table.{Table, clustersMost, risingAbove, tableWithin}
 use Rattle.clusters.proofs.Limits.{rising-says, few-clusters, rising-clusters, cluster-few-needs}
 use Rattle.cluster_list.specs.declared.cells.NeedRead.{NeedRead}
 use Rattle.cluster_list.specs.declared.cells.NeedRead.the-variants as need
-use Rattle.cluster_list.specs.Cells.{partField, needOf, needFields}
+use Rattle.cluster_list.specs.Cells.{partField, needOf, needFields, needsFilled}
 use Rattle.cluster_list.specs.Read.{lastPart, clusterAdded, needAdded, needLine, clusterBegun, clusterLine, valueLine, valueLines, readList, readListMost}
-use Rattle.cluster_list.proofs.ThenLaws.{then-cases-need}
+use Rattle.cluster_list.proofs.ThenLaws.{then-cases-need, then-cases-filled}
+use Rattle.cluster_list.proofs.FirstNeed.{few-filled}
 use Rattle.cluster_list.proofs.Within.{then-cases-some, readList-within}
 use Rattle.cluster_list.proofs.LineLength.{rowLength, row-bytes}
 
@@ -64,10 +65,9 @@ version-read-short w v next e =
     let written = whole-version-written w v next e in
     rw (written .0) (version-most v (written .1))
 
--- the fields needs and least: 33 bytes, or none
+-- the fields needs and least: 33 bytes for the need that they say, or none
 abbrev ShortNeed : List ℕ → List ℕ → NeedRead → Type 0
-ShortNeed w v (need.Filled n) = length w + length v ≤ 33
-ShortNeed w v need.Empty = length w + length v ≡ 0
+ShortNeed w v (need.Value n next) = length w + length v ≤ 33 * length (needsFilled n)
 ShortNeed w v need.IllFormed = Unit {0}
 
 need-short : (w v : List ℕ) → ShortNeed w v (needOf w v)
@@ -117,11 +117,12 @@ module _ (columns : ClusterColumns) (l : List ℕ) (t : Table) where
   need-line-adds : length (cell (columns .cluster) l) + length (cell (columns .version) l) ≡ 0 → Adds (rowLength columns l) t (needLine columns l t)
   unfolding needLine
   need-line-adds z =
-      then-cases-need (Adds (rowLength columns l) t) none none (needFields columns l) _ tt (λ _. tt)
-      λ n e. need-adds (rowLength columns l) t n
-      (let w : length (cell (columns .needs) l) + length (cell (columns .least) l) ≤ 33 =
+      then-cases-need (Adds (rowLength columns l) t) none (needFields columns l) _ tt λ read next e.
+      then-cases-filled (Adds (rowLength columns l) t) none read _ tt λ n f.
+      need-adds (rowLength columns l) t n
+      (let w : length (cell (columns .needs) l) + length (cell (columns .least) l) ≤ 33 * length (needsFilled read) =
       subst (ShortNeed (cell (columns .needs) l) (cell (columns .least) l)) e (need-short (cell (columns .needs) l) (cell (columns .least) l)) in
-      omega arith)
+      omega (arith, few-filled read))
 
   cluster-line-adds : Adds (rowLength columns l) t (clusterLine columns l t)
   unfolding clusterLine clusterBegun
@@ -131,13 +132,9 @@ module _ (columns : ClusterColumns) (l : List ℕ) (t : Table) where
       let first = part-read-short (cell (columns .cluster) l) part behind e in
       let second = version-read-short (cell (columns .version) l) version next f in
       let both = need-short (cell (columns .needs) l) (cell (columns .least) l) in
-      then-cases-need (Adds (rowLength columns l) t) none _ (needFields columns l) _ tt
-      (λ g. cluster-adds (rowLength columns l) t _
-      (let w : length (cell (columns .needs) l) + length (cell (columns .least) l) ≡ 0 =
-      subst (ShortNeed (cell (columns .needs) l) (cell (columns .least) l)) g both in
-      omega arith))
-      λ n g. cluster-adds (rowLength columns l) t _
-      (let w : length (cell (columns .needs) l) + length (cell (columns .least) l) ≤ 33 =
+      then-cases-need (Adds (rowLength columns l) t) none (needFields columns l) _ tt λ read after g.
+      cluster-adds (rowLength columns l) t _
+      (let w : length (cell (columns .needs) l) + length (cell (columns .least) l) ≤ 33 * length (needsFilled read) =
       subst (ShortNeed (cell (columns .needs) l) (cell (columns .least) l)) g both in
       omega arith)
 

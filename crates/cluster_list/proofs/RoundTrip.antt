@@ -31,7 +31,8 @@ use Rattle.clusters.specs.declared.cluster.Need.{Need}
 use Rattle.clusters.specs.Cluster.{Cluster, cluster, withNeed, partWithin, needWithin, needsWithin, needsMost, clusterWithin}
 use Rattle.clusters.specs.Table.{Table, clustersMost, risingAbove, tableWithin}
 use Rattle.clusters.proofs.Limits.{rising-says, few-clusters, rising-clusters}
-use Rattle.cluster_list.specs.declared.cells.NeedRead.the-variants.{Filled, Empty}
+use Rattle.cluster_list.specs.declared.cells.OptionalNeed.the-variants.{Filled, Empty}
+use Rattle.cluster_list.specs.declared.cells.NeedRead.the-variants as need
 use Rattle.cluster_list.specs.Cells.{partField, needOf}
 use Rattle.cluster_list.specs.Read.{lastPart, needAdded, clusterAdded, needLine, clusterBegun, clusterLine, valueLine, valueLines, readList}
 use Rattle.cluster_list.specs.Write.{namesLine, needCells, needLineText, needLinesText, clusterLines, clustersText, writeList}
@@ -55,7 +56,7 @@ part-back part h =
 pub part-some : (part : ℕ) → isEmpty (digits part) ≡ false
 part-some part = some-byte (digits part) (some-digit part)
 
-pub need-back : (n : Need) → needWithin n ≡ true → needOf (digits (n .part)) (versionText (n .least)) ≡ Filled n
+pub need-back : (n : Need) → needWithin n ≡ true → needOf (digits (n .part)) (versionText (n .least)) ≡ need.Value (Filled n) (cursor (length (versionText (n .least))))
 unfolding needOf needWithin
 need-back n h =
     rw (
@@ -64,7 +65,7 @@ need-back n h =
       whole-version-back (n .least) (and-right (partWithin (n .part)) _ h),
     )
 
-pub no-need-back : needOf [] [] ≡ Empty
+pub no-need-back : needOf [] [] ≡ need.Value Empty (cursor 0)
 unfolding needOf
 no-need-back = refl
 

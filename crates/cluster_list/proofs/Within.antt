@@ -24,10 +24,11 @@ use Rattle.clusters.proofs.Limits.{rising-says, rising-is, few-clusters, rising
 use Rattle.clusters.specs.View.{viewTable}
 use Rattle.clusters.proofs.Structs.{view-struct}
 use Rattle.cluster_list.specs.declared.read.ListRead.{ListRead}
-use Rattle.cluster_list.specs.Cells.{partField, needFields}
+use Rattle.cluster_list.specs.Cells.{partField, needFields, needsFilled}
 use Rattle.cluster_list.specs.Read.{andThenSome, lastPart, clusterAdded, needAdded, needLine, clusterBegun, clusterLine, valueLine, valueLines, readList, listRead, tableRead}
-use Rattle.cluster_list.proofs.ThenLaws.{then-cases-need}
-use Rattle.cluster_list.proofs.CellsWithin.{part-read-within, need-read-within}
+use Rattle.cluster_list.proofs.ThenLaws.{then-cases-need, then-cases-filled}
+use Rattle.cluster_list.proofs.FirstNeed.{few-filled}
+use Rattle.cluster_list.proofs.CellsWithin.{part-read-within, needs-read-within, need-read-within}
 
 -- to show something of an `andThenSome`, show it of `ill`, and of what follows a value
 pub then-cases-some : {A R : Type 0} (P : R → Type 0) (ill : R) (o : Option A) (f : A → R) → P ill → ((a : A) → o ≡ some a → P (f a)) → P (andThenSome ill o f)
@@ -54,14 +55,6 @@ with-need-within c n h k l =
     cluster-is-within (withNeed c n) (and-left _ _ h) (and-left _ _ version)
     (rw (length-append (c .needs) (n ∷ [])) (omega arith))
     (needs-joined (c .needs) n (and-right (leb (length (c .needs)) needsMost) _ few) k)
-
-pub one-need-within : (n : Need) → needWithin n ≡ true → needsWithin (n ∷ []) ≡ true
-unfolding needsWithin
-one-need-within n k = and-both _ _ k refl
-
-pub no-need-within : needsWithin [] ≡ true
-unfolding needsWithin
-no-need-within = refl
 
 -- ---- a cluster behind the last
 
@@ -132,8 +125,9 @@ module _ (columns : ClusterColumns) (l : List ℕ) (t : Table) (h : tableWithin 
   need-line-within : Within (needLine columns l t)
   unfolding needLine
   need-line-within =
-      then-cases-need Within none none (needFields columns l) _ tt (λ e. tt) λ n e.
-      need-added-within t n h (need-read-within (cell (columns .needs) l) (cell (columns .least) l) n e)
+      then-cases-need Within none (needFields columns l) _ tt λ need next e.
+      then-cases-filled Within none need _ tt λ n f.
+      need-added-within t n h (need-read-within (cell (columns .needs) l) (cell (columns .least) l) need next e n f)
 
   cluster-line-within : Within (clusterLine columns l t)
   unfolding clusterLine clusterBegun
@@ -142,11 +136,10 @@ module _ (columns : ClusterColumns) (l : List ℕ) (t : Table) (h : tableWithin 
       then-cases-version Within none (wholeVersion (cell (columns .version) l)) _ tt λ version next f.
       let part-fine = part-read-within (cell (columns .cluster) l) part behind e in
       let version-fine = whole-version-limits (cell (columns .version) l) version next _ refl f in
-      then-cases-need Within none _ (needFields columns l) _ tt
-      (λ g. cluster-added-within t _ h (cluster-is-within (cluster part version []) part-fine version-fine (omega arith) no-need-within))
-      λ n g. cluster-added-within t _ h
-      (cluster-is-within (cluster part version (n ∷ [])) part-fine version-fine (omega arith)
-      (one-need-within n (need-read-within (cell (columns .needs) l) (cell (columns .least) l) n g)))
+      then-cases-need Within none (needFields columns l) _ tt λ need after g.
+      cluster-added-within t _ h
+      (cluster-is-within (cluster part version (needsFilled need)) part-fine version-fine (omega (arith, few-filled need))
+      (needs-read-within (cell (columns .needs) l) (cell (columns .least) l) need after g))
 
   pub value-line-within : Within (valueLine columns l t)
   unfolding valueLine

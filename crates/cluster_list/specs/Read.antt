@@ -19,11 +19,11 @@ use Rattle.clusters.specs.Table.{Table, clustersMost, tableWithin}
 use Rattle.clusters.specs.declared.table.Table.{Table as TableStruct}
 use Rattle.clusters.specs.View.{viewTable}
 use Rattle.clusters.specs.Struct.{structTable}
-use Rattle.cluster_list.specs.declared.cells.NeedRead.{NeedRead}
+use Rattle.cluster_list.specs.declared.cells.OptionalNeed.{OptionalNeed}
 use Rattle.cluster_list.specs.declared.read.ListRead.{ListRead}
 use Rattle.cluster_list.specs.declared.read.ListAnswer.{ListAnswer}
 use Rattle.cluster_list.specs.declared.read.ListAnswer.the-variants.{WellFormed, IllFormed}
-use Rattle.cluster_list.specs.Cells.{partField, needFields, andThenNeed}
+use Rattle.cluster_list.specs.Cells.{partField, needFields, andThenNeed, andThenFilled, needsFilled}
 
 -- goes on with what was read so far
 abbrev pub andThenSome : {A R : Type 0} → R → Option A → (A → R) → R
@@ -48,19 +48,22 @@ needAdded (c ∷ (d ∷ t)) n = andThenSome none (needAdded (d ∷ t) n) λ u. s
 
 -- "A line with cluster and version empty adds a need to the cluster above it, with needs and least filled."
 unfoldable pub needLine : ClusterColumns → List ℕ → Table → Option Table
-needLine columns l t = andThenNeed none none (needFields columns l) λ n. needAdded t n
+needLine columns l t =
+    andThenNeed none (needFields columns l) λ need _.
+    andThenFilled none need λ n.
+    needAdded t n
 
--- "A line that begins a cluster has both of these filled or both empty." The cluster has no need or the one filled in
-unfoldable pub clusterBegun : Table → ℕ → Version → NeedRead → Option Table
-clusterBegun t part version need =
-    andThenNeed none (clusterAdded t (cluster part version [])) need λ n.
-    clusterAdded t (cluster part version (n ∷ []))
+-- the cluster that a line begins has no need or the one filled in
+unfoldable pub clusterBegun : Table → ℕ → Version → OptionalNeed → Option Table
+clusterBegun t part version need = clusterAdded t (cluster part version (needsFilled need))
 
+-- "A line that begins a cluster has both of these filled or both empty."
 unfoldable pub clusterLine : ClusterColumns → List ℕ → Table → Option Table
 clusterLine columns l t =
-    andThen none (partField (cell (columns .cluster) l)) λ part behind-part.
-    andThenVersion none (wholeVersion (cell (columns .version) l)) λ version behind-version.
-    clusterBegun t part version (needFields columns l)
+    andThen none (partField (cell (columns .cluster) l)) λ part _.
+    andThenVersion none (wholeVersion (cell (columns .version) l)) λ version _.
+    andThenNeed none (needFields columns l) λ need _.
+    clusterBegun t part version need
 
 -- the value line that a text begins with
 unfoldable pub valueLine : ClusterColumns → List ℕ → Table → Option Table

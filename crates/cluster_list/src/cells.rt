@@ -1,20 +1,31 @@
-// The fields of a line that both formats have: part numbers and needs.
+// The fields of a line that both formats have: part numbers and needs, and the cluster that such a line begins.
 ghost use mathlib.Core.Path.{_≡_};
 ghost use lib.ListN.{drop};
-ghost use Rattle.cluster_list.specs.Cells.{partField, needOf, needFields};
+ghost use Rattle.clusters.specs.Cluster.{cluster};
+ghost use Rattle.clusters.specs.Struct.{structCluster};
+ghost use Rattle.cluster_list.specs.Cells.{partField, needOf, needFields, needsFilled};
+use clusters::cluster::Cluster;
 use clusters::cluster::Need;
+use clusters::cluster::new_cluster;
+use clusters::cluster::with_need;
 use rows::columns::ClusterColumns;
 use rows::reader::cell_at;
 use text::cursor::Cursor;
 use text::number::Number;
 use text::number::whole_number;
+use text::version::Version;
 use text::version::VersionRead;
 use text::version::whole_version;
 
-// What the fields needs and least of a line say.
-pub enum NeedRead {
+// What the fields needs and least of a line say: a need, or none where both are empty.
+pub enum OptionalNeed {
     Filled(Need),
     Empty,
+}
+
+// What reading these two fields finds: what they say, and the cursor behind what was read of least, the second.
+pub enum NeedRead {
+    Value(OptionalNeed, Cursor),
     IllFormed,
 }
 
@@ -37,20 +48,21 @@ pub fn need_of(needs: &[u8], least: &[u8]) -> NeedRead
 {
     if needs.len() < 1 {
         if least.len() < 1 {
-            return NeedRead::Empty;
+            return NeedRead::Value(OptionalNeed::Empty, Cursor { at: 0 });
         }
         return NeedRead::IllFormed;
     }
-    let Number::Value(part, behind_part) = part_field(needs) else {
+    let Number::Value(part, _) = part_field(needs) else {
         return NeedRead::IllFormed;
     };
-    let VersionRead::Value(version, behind_version) = whole_version(least) else {
+    let VersionRead::Value(version, next) = whole_version(least) else {
         return NeedRead::IllFormed;
     };
-    NeedRead::Filled(Need {
+    let need = Need {
         part: part,
         least: version,
-    })
+    };
+    NeedRead::Value(OptionalNeed::Filled(need), next)
 }
 
 // The fields needs and least of the line at a cursor.
@@ -61,4 +73,15 @@ pub fn need_fields(s: &[u8], line: Cursor, columns: ClusterColumns) -> NeedRead
         cell_at(s, line, columns.needs),
         cell_at(s, line, columns.least),
     )
+}
+
+// A cluster with the need that stands on its line, or without one. Its unused places are cleared.
+pub fn cluster_with(part: u32, version: Version, need: OptionalNeed) -> Cluster
+    ensures { λ r. ⌜ r ≡ structCluster (cluster part version (needsFilled need)) ⌝ }
+{
+    let alone = new_cluster(part, version);
+    let OptionalNeed::Filled(first) = need else {
+        return alone;
+    };
+    with_need(alone, first)
 }

@@ -1,4 +1,4 @@
-// The cluster list: its text read into a table and a table written as text.
+// The cluster list: its text read into a table, the fields that a package has too, and how long a list can be.
 pub mod cells;
 pub mod limits;
 pub mod read;

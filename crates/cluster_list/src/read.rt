@@ -7,13 +7,13 @@ ghost use Rattle.clusters.specs.View.{viewCluster, viewTable};
 ghost use Rattle.clusters.specs.Struct.{structCluster};
 ghost use Rattle.cluster_list.specs.Read.{lastPart, clusterAdded, needAdded, needLine, clusterBegun, clusterLine, valueLine, valueLines, readList, tableRead, listRead, Built};
 use crate::cells::NeedRead;
+use crate::cells::OptionalNeed;
+use crate::cells::cluster_with;
 use crate::cells::need_fields;
 use crate::cells::part_field;
 use clusters::cluster::Cluster;
 use clusters::cluster::NEEDS_MOST;
 use clusters::cluster::Need;
-use clusters::cluster::new_cluster;
-use clusters::cluster::with_need;
 use clusters::table::CLUSTERS_MOST;
 use clusters::table::Table;
 use clusters::table::append;
@@ -109,25 +109,21 @@ fn need_line(s: &[u8], line: Cursor, columns: ClusterColumns, table: Table) -> L
     requires { ⌜ Built table ⌝ }
     ensures { λ r. ⌜ r ≡ listRead (needLine columns (drop (line .at) (now (s .entry))) (viewTable table)) ⌝ }
 {
-    let need = need_fields(s, line, columns);
-    match need {
-        NeedRead::Filled(n) => add_need(table, n),
-        NeedRead::Empty => ill_formed(),
-        NeedRead::IllFormed => ill_formed(),
-    }
+    let NeedRead::Value(need, _) = need_fields(s, line, columns) else {
+        return ill_formed();
+    };
+    let OptionalNeed::Filled(further) = need else {
+        return ill_formed();
+    };
+    add_need(table, further)
 }
 
 // A cluster with its first need or without one.
-fn begin_cluster(table: Table, part: u32, version: Version, need: NeedRead) -> ListRead
+fn begin_cluster(table: Table, part: u32, version: Version, need: OptionalNeed) -> ListRead
     requires { ⌜ Built table ⌝ }
     ensures { λ r. ⌜ r ≡ listRead (clusterBegun (viewTable table) part version need) ⌝ }
 {
-    let c = new_cluster(part, version);
-    match need {
-        NeedRead::Filled(n) => add_cluster(table, with_need(c, n)),
-        NeedRead::Empty => add_cluster(table, c),
-        NeedRead::IllFormed => ill_formed(),
-    }
+    add_cluster(table, cluster_with(part, version, need))
 }
 
 // A line that begins a cluster.
@@ -135,17 +131,15 @@ fn cluster_line(s: &[u8], line: Cursor, columns: ClusterColumns, table: Table) -
     requires { ⌜ Built table ⌝ }
     ensures { λ r. ⌜ r ≡ listRead (clusterLine columns (drop (line .at) (now (s .entry))) (viewTable table)) ⌝ }
 {
-    let Number::Value(part, behind_part) = part_field(cell_at(s, line, columns.cluster)) else {
+    let Number::Value(part, _) = part_field(cell_at(s, line, columns.cluster)) else {
         return ill_formed();
     };
-    let VersionRead::Value(version, behind_version) = whole_version(cell_at(
-        s,
-        line,
-        columns.version,
-    )) else {
+    let VersionRead::Value(version, _) = whole_version(cell_at(s, line, columns.version)) else {
         return ill_formed();
     };
-    let need = need_fields(s, line, columns);
+    let NeedRead::Value(need, _) = need_fields(s, line, columns) else {
+        return ill_formed();
+    };
     begin_cluster(table, part, version, need)
 }
 

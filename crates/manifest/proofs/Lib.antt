@@ -1,4 +1,4 @@
-pub mod FirstCluster
+pub mod EmptyLine
 pub mod PackageLaws
 pub mod Within
 pub mod Payload

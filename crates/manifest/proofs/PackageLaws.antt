@@ -5,7 +5,7 @@ use mathlib.Core.Bool.{Bool, true, false, not}
 use mathlib.Core.List.{List, [], _∷_}
 use mathlib.Core.Option.{Option}
 use native.Mathlib.Omega.{arith}
-use lib.Dec.{eqb, leb}
+use lib.Dec.{leb}
 use lib.ListN.{length, drop, getD, length-append, List·getD-eq-default}
 use borrow.Author.Tests.{eq-eqb, ne-eqb, eqb-true, leb-true, leb-false, not-true, not-false}
 use Rattle.base.specs.Quoted.{LF}
@@ -31,8 +31,7 @@ use Rattle.actions.specs.Struct.{structAction}
 use Rattle.clusters.specs.Exact as exact
 use Rattle.clusters.proofs.Structs.{struct-with-need}
 use Rattle.cluster_list.specs.Read.{andThenSome}
-use Rattle.package_heading.specs.declared.heading.FirstNeed.{FirstNeed}
-use Rattle.package_heading.specs.declared.heading.FirstNeed.the-variants.{Filled, Empty}
+use Rattle.cluster_list.proofs.FirstNeed.{few-filled}
 use Rattle.package_heading.specs.declared.heading.Heading.{Heading as HeadingStruct}
 use Rattle.package_heading.specs.declared.heading.HeadingRead.{HeadingRead}
 use Rattle.package_heading.specs.declared.heading.HeadingRead.the-variants as heading-read
@@ -42,8 +41,8 @@ use Rattle.manifest.specs.declared.package.PackageAnswer.{PackageAnswer}
 use Rattle.manifest.specs.declared.package.PackageAnswer.the-variants.{Consistent, IllFormed, Inconsistent}
 use Rattle.manifest.specs.declared.package.PackageRead.{PackageRead as PackageReadStruct}
 use Rattle.package_heading.specs.Heading.{Heading}
-use Rattle.package_heading.specs.Found.{firstNeeds, plainHeading, headingFound}
-use Rattle.manifest.specs.Package.{Text, PackageRead, illFormed, onlyNeed, furtherLines, furtherMost, packageWith, packageBehind}
+use Rattle.package_heading.specs.Found.{plainHeading, headingFound}
+use Rattle.manifest.specs.Package.{Text, PackageRead, illFormed, onlyNeed, isEmptyLine, furtherLines, furtherMost, packageWith, packageBehind}
 use Rattle.manifest.specs.Found.{needFound}
 use Rattle.manifest.specs.Answer.{cleared, packageRead}
 
@@ -100,11 +99,7 @@ module _ (s : List ℕ) (heading : HeadingStruct) (plain : Cluster) (at : ℕ) (
 
 -- ---- the further value lines
 
--- past the end there is no LF
-pub no-line : (s : List ℕ) (at : ℕ) → length s ≤ at → false ≡ eqb (getD s at 0) LF
-no-line s at h = rw (List·getD-eq-default s 0 h)
-
--- and so the empty line stands within the text
+-- past the end there is no LF, so the empty line stands within the text
 LF-inside : (s : List ℕ) (at : ℕ) → getD s at 0 ≡ LF → at < length s
 LF-inside s at e =
     bool-cases (leb (length s) at)
@@ -119,7 +114,7 @@ pub record Reading (s : List ℕ) (columns : PackageColumns) (h : Heading) (whol
   pub rest : whole ≡ packageRead (andThenSome illFormed (furtherLines lines columns s at plain) (packageWith s h))
 
 module _ (s : List ℕ) (columns : PackageColumns) (h : Heading) (whole : PackageReadStruct) (lines at : ℕ) (cluster : ClusterStruct)
-    (now : Reading s columns h whole lines at cluster) (t : Bool) (told : t ≡ eqb (getD s at 0) LF) where
+    (now : Reading s columns h whole lines at cluster) (t : Bool) (told : t ≡ isEmptyLine s at) where
   -- the empty line stands here
   pub at-end : (x : PackageReadStruct) → not t ≡ false
       → ((plain : Cluster) → cluster ≡ structCluster plain → x ≡ packageRead (packageWith s h (record { cluster = plain; start = at + 1 }))) → x ≡ whole
@@ -175,14 +170,10 @@ pub reading-begins : (s : List ℕ) (columns : PackageColumns) (heading : Headin
 reading-begins s columns heading lines at cluster e q = record {
   plain = plainHeading heading .cluster;
   stands = q;
-  room = omega (arith, e, few-needs (heading .need), few-lines (heading .fields .change));
+  room = omega (arith, e, few-filled (heading .need), few-lines (heading .fields .change));
   rest = rw e;
 }
   where
-    few-needs : (need : FirstNeed) → length (firstNeeds need) ≤ 1
-    few-needs (Filled n) = omega arith
-    few-needs Empty = omega arith
-
     few-lines : (change : Change) → furtherMost change ≤ 3
     few-lines Install = omega arith
     few-lines Update = omega arith

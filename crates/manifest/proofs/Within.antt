@@ -7,9 +7,8 @@ use mathlib.Core.Option.{Option, none, some}
 use Prim.Native.Nat.{ℕ, zero, suc, _+_, _≤_}
 use native.Mathlib.Omega.{arith}
 use lib.Dec.{eqb}
-use lib.ListN.{length, drop, getD, length-append}
+use lib.ListN.{length, drop, length-append}
 use borrow.Author.Tests.{eqb-true}
-use Rattle.base.specs.Quoted.{LF}
 use Rattle.base.proofs.Tests.{cond-cases}
 use Rattle.rows.specs.declared.columns.PackageColumns.{PackageColumns}
 use Rattle.rows.specs.Line.{lineFrom}
@@ -24,12 +23,12 @@ use Rattle.actions.specs.Struct.{structAction}
 use Rattle.actions.proofs.Structs.{view-struct-action}
 use Rattle.actions.specs.View.{viewAction, actionOf}
 use Rattle.cluster_list.specs.Cells.{needFields}
-use Rattle.cluster_list.proofs.ThenLaws.{then-cases-need}
+use Rattle.cluster_list.proofs.ThenLaws.{then-cases-need, then-cases-filled}
 use Rattle.cluster_list.proofs.CellsWithin.{need-read-within}
 use Rattle.cluster_list.proofs.Within.{then-cases-some, with-need-within}
 use Rattle.package_heading.specs.Heading.{payloadMost, sumMost, firstLine}
 use Rattle.package_heading.proofs.Within.{HeadingFacts, HeadingWithin, HasCluster, installs, updates, action-fine, first-line-within}
-use Rattle.manifest.specs.Package.{Manifest, PackageRead, illFormed, inconsistent, consistent, noCluster, noPayload, onlyNeed, Text, furtherLines, furtherMost, packageWith, readPackage}
+use Rattle.manifest.specs.Package.{Manifest, PackageRead, illFormed, inconsistent, consistent, noCluster, noPayload, onlyNeed, Text, isEmptyLine, furtherLines, furtherMost, packageWith, readPackage}
 
 -- ---- the further value lines
 
@@ -41,7 +40,8 @@ only-need-within : (columns : PackageColumns) (l : List ℕ) → NeedIn (onlyNee
 unfolding onlyNeed
 only-need-within columns l =
     cond-cases NeedIn (noPayload columns l && noCluster (columns .«cluster_columns») l) _ _
-    (λ b. then-cases-need NeedIn none none (needFields (columns .«cluster_columns») l) some tt (λ e. tt) λ n e. need-read-within _ _ n e)
+    (λ b. then-cases-need NeedIn none (needFields (columns .«cluster_columns») l) _ tt λ need next e.
+    then-cases-filled NeedIn none need some tt λ n f. need-read-within _ _ need next e n f)
     λ b. tt
 
 abbrev TextWithin : Change → Option Text → Type 0
@@ -52,10 +52,10 @@ cluster-lines-within : (change : Change) → HasCluster change → (lines : ℕ)
     → clusterWithin c ≡ true → length (c .needs) + lines ≤ needsMost → TextWithin change (furtherLines lines columns s at c)
 unfolding furtherLines
 cluster-lines-within change has zero columns s at c h r =
-    cond-cases (TextWithin change) (eqb (getD s at 0) LF) _ _ (λ b. action-fine has c h) λ b. tt
+    cond-cases (TextWithin change) (isEmptyLine s at) _ _ (λ b. action-fine has c h) λ b. tt
 cluster-lines-within change has (suc lines) columns s at c h r =
     let ih : (next : ℕ) (d : Cluster) → clusterWithin d ≡ true → length (d .needs) + lines ≤ needsMost → TextWithin change (furtherLines lines columns s next d) = cluster-lines-within change has lines columns s in
-    cond-cases (TextWithin change) (eqb (getD s at 0) LF) _ _ (λ b. action-fine has c h) λ b.
+    cond-cases (TextWithin change) (isEmptyLine s at) _ _ (λ b. action-fine has c h) λ b.
     then-cases-line (TextWithin change) none (lineFrom 6 at (drop at s)) _ tt λ next e.
     then-cases-some (TextWithin change) none (onlyNeed columns (drop at s)) _ tt λ n f.
     ih (next .at) (withNeed c n)
@@ -67,7 +67,7 @@ text-within : (change : Change) (columns : PackageColumns) (s : List ℕ) (at : 
 unfolding furtherLines actionWithin
 text-within Install columns s at c h r = cluster-lines-within Install installs 3 columns s at c h (omega arith)
 text-within Update columns s at c h r = cluster-lines-within Update updates 3 columns s at c h (omega arith)
-text-within Remove columns s at c h r = cond-cases (TextWithin Remove) (eqb (getD s at 0) LF) _ _ (λ b. h) λ b. tt
+text-within Remove columns s at c h r = cond-cases (TextWithin Remove) (isEmptyLine s at) _ _ (λ b. h) λ b. tt
 
 -- ---- the whole area
 

@@ -17,7 +17,7 @@ use Rattle.actions.specs.declared.action.Change.the-variants.{Install, Update, 
 use Rattle.clusters.specs.Cluster.{Cluster, withNeed}
 use Rattle.actions.specs.Action.{Action}
 use Rattle.actions.specs.View.{actionOf}
-use Rattle.cluster_list.specs.Cells.{needFields, andThenNeed}
+use Rattle.cluster_list.specs.Cells.{needFields, andThenNeed, andThenFilled}
 use Rattle.cluster_list.specs.Read.{andThenSome}
 use Rattle.package_heading.specs.Heading.{Heading, firstLine}
 
@@ -45,7 +45,7 @@ noPayload columns l = isEmpty (cell (columns .action) l) && (isEmpty (cell (colu
 unfoldable pub onlyNeed : PackageColumns → List ℕ → Option Need
 onlyNeed columns l =
     cond (noPayload columns l && noCluster (columns .«cluster_columns») l)
-    (andThenNeed none none (needFields (columns .«cluster_columns») l) some)
+    (andThenNeed none (needFields (columns .«cluster_columns») l) λ need _. andThenFilled none need some)
     none
 
 -- the cluster with the needs of further value lines, and where the payload starts
@@ -53,11 +53,15 @@ pub record Text : Type 0 where
   pub cluster : Cluster
   pub start : ℕ
 
+-- "an empty line" stands at a position: its LF alone. Past the end `getD` gives 0, which is no LF
+abbrev pub isEmptyLine : List ℕ → ℕ → Bool
+isEmptyLine s at = eqb (getD s at 0) LF
+
 -- at most the given number of further value lines from a position on, "an empty line, then the payload"
 unfoldable pub furtherLines : ℕ → PackageColumns → List ℕ → ℕ → Cluster → Option Text
-furtherLines zero columns s at c = cond (eqb (getD s at 0) LF) (some (record { cluster = c; start = at + 1 })) none
+furtherLines zero columns s at c = cond (isEmptyLine s at) (some (record { cluster = c; start = at + 1 })) none
 furtherLines (suc lines) columns s at c =
-    cond (eqb (getD s at 0) LF) (some (record { cluster = c; start = at + 1 }))
+    cond (isEmptyLine s at) (some (record { cluster = c; start = at + 1 }))
     (andThenLine none (lineFrom 6 at (drop at s)) λ next.
     andThenSome none (onlyNeed columns (drop at s)) λ n.
     furtherLines lines columns s next (withNeed c n))

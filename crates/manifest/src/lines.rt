@@ -1,34 +1,34 @@
 // The lines of a package behind the first value line.
 ghost use mathlib.Core.Path.{_≡_};
-ghost use lib.Dec.{eqb};
-ghost use lib.ListN.{drop, getD};
-ghost use Rattle.base.specs.Quoted.{LF};
-ghost use Rattle.manifest.specs.Package.{noCluster, noPayload, onlyNeed, furtherMost};
+ghost use lib.ListN.{drop};
+ghost use Rattle.manifest.specs.Package.{isEmptyLine, noCluster, noPayload, onlyNeed, furtherMost};
 ghost use Rattle.manifest.specs.Found.{needFound};
 use actions::action::Change;
 use cluster_list::cells::NeedRead;
+use cluster_list::cells::OptionalNeed;
 use cluster_list::cells::need_fields;
 use clusters::cluster::Need;
 use rows::columns::ClusterColumns;
 use rows::columns::PackageColumns;
+use rows::line::Line;
 use rows::reader::cell_is_empty;
+use rows::reader::line_at;
 use text::cursor::Cursor;
 
-// What reading a value line behind the first finds.
+// What reading a value line behind the first finds. Its caller has the cursor behind the line from `line_at`.
 pub enum NeedLine {
     Value(Need),
     IllFormed,
 }
 
-// Whether the empty line stands at a cursor.
+// Whether the line at a cursor is the empty line: one field, and nothing in it.
 pub fn is_empty_line(s: &[u8], line: Cursor) -> bool
-    ensures { λ r. ⌜ r ≡ eqb (getD (now (s .entry)) (line .at) 0) LF ⌝ }
+    ensures { λ r. ⌜ r ≡ isEmptyLine (now (s .entry)) (line .at) ⌝ }
 {
-    let at = line.at;
-    if s.len() <= at {
+    let Line::Ends(_) = line_at(s, line, 0) else {
         return false;
-    }
-    s[at] == b'\n'
+    };
+    cell_is_empty(s, line, 0)
 }
 
 // Whether cluster and version of the line at a cursor are empty.
@@ -65,11 +65,13 @@ pub fn only_need(s: &[u8], line: Cursor, columns: PackageColumns) -> NeedLine
     if !no_cluster(s, line, cluster_columns) {
         return NeedLine::IllFormed;
     }
-    match need_fields(s, line, cluster_columns) {
-        NeedRead::Filled(need) => NeedLine::Value(need),
-        NeedRead::Empty => NeedLine::IllFormed,
-        NeedRead::IllFormed => NeedLine::IllFormed,
-    }
+    let NeedRead::Value(need, _) = need_fields(s, line, cluster_columns) else {
+        return NeedLine::IllFormed;
+    };
+    let OptionalNeed::Filled(further) = need else {
+        return NeedLine::IllFormed;
+    };
+    NeedLine::Value(further)
 }
 
 // How many value lines may follow the first.

@@ -17,10 +17,10 @@ use crate::lines::is_empty_line;
 use crate::lines::only_need;
 use actions::action::Action;
 use actions::action::Change;
+use cluster_list::cells::cluster_with;
 use clusters::cluster::Cluster;
 use clusters::cluster::new_cluster;
 use clusters::cluster::with_need;
-use package_heading::heading::FirstNeed;
 use package_heading::heading::Heading;
 use package_heading::heading::HeadingRead;
 use package_heading::heading::heading_at;
@@ -101,19 +101,6 @@ fn action_of(change: Change, cluster: Cluster) -> Action
     }
 }
 
-// The cluster of the first value line, with the need that stands there.
-fn first_cluster(heading: Heading) -> Cluster
-    ensures { λ r. ⌜ r ≡ structCluster (plainHeading heading .cluster) ⌝ }
-{
-    let version = heading.version;
-    let cluster = new_cluster(heading.fields.part, version);
-    let need = heading.need;
-    let FirstNeed::Filled(first) = need else {
-        return cluster;
-    };
-    with_need(cluster, first)
-}
-
 // The package whose text ends with the empty line at a cursor. Its caller has found the LF there.
 fn package_with(s: &[u8], heading: Heading, cluster: Cluster, line: Cursor) -> PackageRead
     requires { ⌜ line .at < length (now s) ⌝ }
@@ -141,8 +128,10 @@ fn package_behind(s: &[u8], columns: PackageColumns, from: Cursor, heading: Head
 {
     let fields = heading.fields;
     let change = fields.change;
+    let version = heading.version;
+    let first_need = heading.need;
     let mut lines = further_most(change);
-    let mut cluster = first_cluster(heading);
+    let mut cluster = cluster_with(fields.part, version, first_need);
     let mut line = from;
     while !is_empty_line(s, line) {
         if lines == 0 {

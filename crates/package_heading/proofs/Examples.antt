@@ -7,11 +7,13 @@ use mathlib.Core.Option.{Option, none, some}
 use Rattle.base.specs.Quoted.{bytes}
 use Rattle.base.proofs.Tables.{_gives_, AllHold, inLines}
 use Rattle.text.specs.declared.version.Version.{Version}
+use Rattle.text.specs.Number.{cursor}
 use Rattle.text.specs.Version.{version}
 use Rattle.rows.specs.declared.columns.PackageColumns.{PackageColumns}
 use Rattle.actions.specs.declared.action.Change.{Change}
 use Rattle.actions.specs.declared.action.Change.the-variants.{Install, Update, Remove}
 use Rattle.clusters.specs.Cluster.{cluster}
+use Rattle.package_heading.specs.declared.change.ChangeRead.the-variants.{Value, IllFormed}
 use Rattle.package_heading.specs.Heading.{Heading, heading, changeOf, firstLine}
 use Rattle.package_heading.specs.Open.{computing}
 
@@ -32,15 +34,15 @@ withNeed change v count sum =
 
 -- "Action is `install`, `update` or `remove`."
 actions-computed : AllHold (λ (word : String). changeOf (bytes word))
-    ("install" gives some Install
-    ∷ "update" gives some Update
-    ∷ "remove" gives some Remove
-    ∷ "Install" gives none
-    ∷ "UPDATE" gives none
-    ∷ "delete" gives none
-    ∷ "removed" gives none
-    ∷ "instal" gives none
-    ∷ "" gives none
+    ("install" gives Value Install (cursor 7)
+    ∷ "update" gives Value Update (cursor 6)
+    ∷ "remove" gives Value Remove (cursor 6)
+    ∷ "Install" gives IllFormed
+    ∷ "UPDATE" gives IllFormed
+    ∷ "delete" gives IllFormed
+    ∷ "removed" gives IllFormed
+    ∷ "instal" gives IllFormed
+    ∷ "" gives IllFormed
     ∷ [])
 unfolding computing
 actions-computed = refl

@@ -1,7 +1,7 @@
 -- What is read from the first value line is within the limits. Assumes nothing.
 use mathlib.Core.Path.{_≡_, refl}
 use mathlib.Core.Bool.{true, _&&_}
-use mathlib.Core.List.{List, [], _∷_}
+use mathlib.Core.List.{List}
 use mathlib.Core.Option.{Option, none, some}
 use Prim.Native.Nat.{ℕ, _≤_}
 use native.Mathlib.Omega.{arith}
@@ -19,11 +19,13 @@ use Rattle.actions.specs.declared.action.Change.the-variants.{Install, Update, 
 use Rattle.clusters.specs.Cluster.{Cluster, partWithin, clusterWithin, cluster}
 use Rattle.actions.specs.Action.{actionWithin}
 use Rattle.actions.specs.View.{actionOf}
-use Rattle.cluster_list.specs.Cells.{partField, needFields}
+use Rattle.cluster_list.specs.Cells.{partField, needFields, needsFilled}
 use Rattle.cluster_list.proofs.ThenLaws.{then-cases-need}
-use Rattle.cluster_list.proofs.CellsWithin.{part-read-within, need-read-within}
-use Rattle.cluster_list.proofs.Within.{then-cases-some, cluster-is-within, one-need-within, no-need-within}
+use Rattle.cluster_list.proofs.FirstNeed.{few-filled}
+use Rattle.cluster_list.proofs.CellsWithin.{part-read-within, needs-read-within}
+use Rattle.cluster_list.proofs.Within.{cluster-is-within}
 use Rattle.package_heading.specs.Heading.{Heading, payloadMost, sumMost, changeOf, onlyPart, removeHeading, clusterHeading, headingOf, firstLine}
+use Rattle.package_heading.proofs.ThenLaws.{then-cases-change}
 
 -- the action within its limits, with at most the one need of the line; payload count and sum
 pub record HeadingFacts (h : Heading) : Type 0 where
@@ -58,16 +60,12 @@ module _ (columns : PackageColumns) (l : List ℕ) (part count sum : ℕ) (fine 
   cluster-within change has =
       then-cases-version HeadingWithin none (wholeVersion (cell (columns .«cluster_columns» .version) l)) _ tt λ version next e.
       let version-fine = whole-version-limits (cell (columns .«cluster_columns» .version) l) version next _ refl e in
-      then-cases-need HeadingWithin none _ (needFields (columns .«cluster_columns») l) _ tt
-      (λ f. record {
-        within = action-fine has _ (cluster-is-within (cluster part version []) fine version-fine (omega arith) no-need-within);
-        few = omega arith;
-        count = fits;
-        sum = small;
-      })
-      λ n f. record {
-        within = action-fine has _ (cluster-is-within (cluster part version (n ∷ [])) fine version-fine (omega arith) (one-need-within n (need-read-within _ _ n f)));
-        few = omega arith;
+      then-cases-need HeadingWithin none (needFields (columns .«cluster_columns») l) _ tt λ need after f.
+      record {
+        within =
+            action-fine has _
+            (cluster-is-within (cluster part version (needsFilled need)) fine version-fine (omega (arith, few-filled need)) (needs-read-within _ _ need after f));
+        few = few-filled need;
         count = fits;
         sum = small;
       }
@@ -80,7 +78,7 @@ module _ (columns : PackageColumns) (l : List ℕ) (part count sum : ℕ) (fine 
 pub first-line-within : (columns : PackageColumns) (l : List ℕ) → HeadingWithin (firstLine columns l)
 unfolding firstLine
 first-line-within columns l =
-    then-cases-some HeadingWithin none (changeOf (cell (columns .action) l)) _ tt λ change a.
+    then-cases-change HeadingWithin none (changeOf (cell (columns .action) l)) _ tt λ change _ a.
     then-cases HeadingWithin none (partField (cell (columns .«cluster_columns» .cluster) l)) _ tt λ part behind e.
     then-cases HeadingWithin none (wholeNumber payloadMost (cell (columns .payload) l)) _ tt λ count behind-count f.
     then-cases HeadingWithin none (wholeNumber sumMost (cell (columns .sum) l)) _ tt λ sum behind-sum g.

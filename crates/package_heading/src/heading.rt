@@ -7,10 +7,11 @@ ghost use Rattle.package_heading.specs.Found.{headingFound};
 use crate::change::ChangeRead;
 use crate::change::change_of;
 use actions::action::Change;
+use checksum::SUM_MOST;
 use cluster_list::cells::NeedRead;
+use cluster_list::cells::OptionalNeed;
 use cluster_list::cells::need_fields;
 use cluster_list::cells::part_field;
-use clusters::cluster::Need;
 use rows::columns::ClusterColumns;
 use rows::columns::PackageColumns;
 use rows::reader::cell_at;
@@ -25,9 +26,6 @@ use text::version::whole_version;
 // The largest count of payload bytes: the one place in the code that has this limit.
 const PAYLOAD_MOST: u32 = 16777216;
 
-// The largest sum: the one place in the code that has this limit.
-const SUM_MOST: u32 = 65535;
-
 // What the fields action, cluster, payload and sum of the first value line say.
 pub struct Fields {
     pub change: Change,
@@ -36,19 +34,14 @@ pub struct Fields {
     pub sum: u32,
 }
 
-// The need that stands on the first value line.
-pub enum FirstNeed {
-    Filled(Need),
-    Empty,
-}
-
 // What the first value line says. Of a remove the version is 0.0.0.0 and there is no need.
 pub struct Heading {
     pub fields: Fields,
     pub version: Version,
-    pub need: FirstNeed,
+    pub need: OptionalNeed,
 }
 
+// What reading that line finds. Its caller has the cursor behind the line from `line_at`.
 pub enum HeadingRead {
     Value(Heading),
     IllFormed,
@@ -86,7 +79,7 @@ fn remove_heading(s: &[u8], line: Cursor, columns: PackageColumns, fields: Field
         return HeadingRead::Value(Heading {
             fields: fields,
             version: version,
-            need: FirstNeed::Empty,
+            need: OptionalNeed::Empty,
         });
     }
     HeadingRead::IllFormed
@@ -98,22 +91,17 @@ fn cluster_heading(s: &[u8], line: Cursor, columns: PackageColumns, fields: Fiel
 {
     let cluster_columns = columns.cluster_columns;
     let field = cell_at(s, line, cluster_columns.version);
-    let VersionRead::Value(version, behind_version) = whole_version(field) else {
+    let VersionRead::Value(version, _) = whole_version(field) else {
         return HeadingRead::IllFormed;
     };
-    match need_fields(s, line, cluster_columns) {
-        NeedRead::Filled(need) => HeadingRead::Value(Heading {
-            fields: fields,
-            version: version,
-            need: FirstNeed::Filled(need),
-        }),
-        NeedRead::Empty => HeadingRead::Value(Heading {
-            fields: fields,
-            version: version,
-            need: FirstNeed::Empty,
-        }),
-        NeedRead::IllFormed => HeadingRead::IllFormed,
-    }
+    let NeedRead::Value(need, _) = need_fields(s, line, cluster_columns) else {
+        return HeadingRead::IllFormed;
+    };
+    HeadingRead::Value(Heading {
+        fields: fields,
+        version: version,
+        need: need,
+    })
 }
 
 // The first value line by its action.
@@ -139,11 +127,11 @@ fn payload_heading(
     ensures { λ r. ⌜ headingFound r ≡ payloadHeading change columns (drop (line .at) (now (s .entry))) part ⌝ }
 {
     let payload = cell_at(s, line, columns.payload);
-    let Number::Value(count, behind_count) = whole_number(payload, PAYLOAD_MOST) else {
+    let Number::Value(count, _) = whole_number(payload, PAYLOAD_MOST) else {
         return HeadingRead::IllFormed;
     };
     let sum_field = cell_at(s, line, columns.sum);
-    let Number::Value(sum, behind_sum) = whole_number(sum_field, SUM_MOST) else {
+    let Number::Value(sum, _) = whole_number(sum_field, SUM_MOST) else {
         return HeadingRead::IllFormed;
     };
     let fields = Fields {
@@ -159,11 +147,11 @@ fn payload_heading(
 pub fn heading_at(s: &[u8], line: Cursor, columns: PackageColumns) -> HeadingRead
     ensures { λ r. ⌜ headingFound r ≡ firstLine columns (drop (line .at) (now (s .entry))) ⌝ }
 {
-    let ChangeRead::Value(change) = change_of(cell_at(s, line, columns.action)) else {
+    let ChangeRead::Value(change, _) = change_of(cell_at(s, line, columns.action)) else {
         return HeadingRead::IllFormed;
     };
     let cluster = cell_at(s, line, columns.cluster_columns.cluster);
-    let Number::Value(part, behind_part) = part_field(cluster) else {
+    let Number::Value(part, _) = part_field(cluster) else {
         return HeadingRead::IllFormed;
     };
     payload_heading(s, line, columns, change, part)

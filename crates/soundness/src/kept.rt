@@ -2,9 +2,9 @@
 use crate::phases::is_processing;
 use crate::session::session_sound;
 use actions::action::Action;
+use checksum::SUM_MOST;
 use clusters::table::Table;
 use state::limits::ENTRIES_MOST;
-use state::limits::SUM_MOST;
 use state::package::is_being_processed;
 use state::phase::Phase;
 use state::session::Entry;

@@ -14,9 +14,6 @@ pub const STORE_MOST: usize = 16777216;
 // The last transfer id. The next id above it says that all are spent.
 pub const ID_MOST: u64 = 4294967295;
 
-// The largest sum of a payload.
-pub const SUM_MOST: u32 = 65535;
-
 // The bytes of the longest ChangeInfo.
 pub const CHANGE_INFO_MOST: usize = 319;
 

@@ -1,19 +1,19 @@
 -- `cluster_list::cells::need_of` meets its contract: both fields empty, or a part number and then a version. Assumes nothing.
-use borrow.Author.Needs.{needs}
 use Rattle.base.proofs.Ladder.{ladder}
 use Rattle.text.proofs.ThenLaws.{chain}
 use Rattle.cluster_list.specs.Cells.{needOf}
 use Rattle.rows.proofs.Empty.{emptiness}
+use borrow.Author.Needs.{needs}
 use Rattle.cluster_list.proofs.cells.need_of.Statement.{statement}
 use Rattle.cluster_list.proofs.cells.need_of.Tie as tie
 
 returns : tie.Need-returns
 unfolding needOf
-returns c = search (ladder, emptiness)
+returns c = search (chain, ladder, emptiness) depth 9
 
 returns-2 : tie.Need-returns-2
 unfolding needOf
-returns-2 c = search (ladder, emptiness)
+returns-2 c = search (chain, ladder, emptiness) depth 9
 
 part-field-requires : tie.Need-part-field-requires
 part-field-requires c κs = search needs

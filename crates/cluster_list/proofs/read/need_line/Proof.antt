@@ -1,4 +1,4 @@
--- `cluster_list::read::need_line` meets its contract: a need, and then the need added. Assumes nothing.
+-- `cluster_list::read::need_line` meets its contract: a need that is filled in, and then the need added. Assumes nothing.
 use Rattle.cluster_list.specs.Read.{needLine}
 use Rattle.cluster_list.proofs.ReadLaws.{read-chain}
 use borrow.Author.Needs.{needs}
@@ -11,14 +11,18 @@ need-fields-requires c κs = search needs
 enum-known-need : tie.Need-enum-known-need
 enum-known-need c = search needs
 
-add-need-requires : tie.Need-add-need-requires
-add-need-requires c κs = search needs
-
 enum-told : tie.Need-enum-told
 enum-told c = search needs
 
 ill-formed-requires : tie.Need-ill-formed-requires
 ill-formed-requires c κs = search needs
+
+returns : tie.Need-returns
+unfolding needLine
+returns c = search read-chain depth 9
+
+enum-known-need-2 : tie.Need-enum-known-need-2
+enum-known-need-2 c = search needs
 
 enum-told-2 : tie.Need-enum-told-2
 enum-told-2 c = search needs
@@ -26,13 +30,12 @@ enum-told-2 c = search needs
 ill-formed-requires-2 : tie.Need-ill-formed-requires-2
 ill-formed-requires-2 c κs = search needs
 
-returns : tie.Need-returns
-unfolding needLine
-returns c = search read-chain depth 9
-
 returns-2 : tie.Need-returns-2
 unfolding needLine
 returns-2 c = search read-chain depth 9
+
+add-need-requires : tie.Need-add-need-requires
+add-need-requires c κs = search needs
 
 returns-3 : tie.Need-returns-3
 unfolding needLine
@@ -44,11 +47,12 @@ need-line-spec =
     (tie.spec
     need-fields-requires
     enum-known-need
-    add-need-requires
     enum-told
     ill-formed-requires
+    returns
+    enum-known-need-2
     enum-told-2
     ill-formed-requires-2
-    returns
     returns-2
+    add-need-requires
     returns-3)

@@ -1,9 +1,8 @@
 -- `manifest::lines::only_need` meets its contract: the empty fields, then the need, which is filled. Assumes nothing.
-use borrow.Author.Needs.{needs}
-use Rattle.base.proofs.Ladder.{both}
+use Rattle.base.proofs.Ladder.{told-ladder, both}
 use Rattle.manifest.specs.Package.{onlyNeed}
 use Rattle.cluster_list.proofs.ThenLaws.{need-chain}
-use Rattle.base.proofs.Ladder.{told-ladder}
+use borrow.Author.Needs.{needs}
 use Rattle.manifest.proofs.lines.only_need.Statement.{statement}
 use Rattle.manifest.proofs.lines.only_need.Tie as tie
 
@@ -30,12 +29,15 @@ enum-known-need c = search needs
 enum-told : tie.Need-enum-told
 enum-told c = search needs
 
-enum-told-2 : tie.Need-enum-told-2
-enum-told-2 c = search needs
-
 returns-3 : tie.Need-returns-3
 unfolding onlyNeed
 returns-3 c = search (told-ladder, both, need-chain) depth 9
+
+enum-known-need-2 : tie.Need-enum-known-need-2
+enum-known-need-2 c = search needs
+
+enum-told-2 : tie.Need-enum-told-2
+enum-told-2 c = search needs
 
 returns-4 : tie.Need-returns-4
 unfolding onlyNeed
@@ -56,7 +58,8 @@ only-need-spec =
     need-fields-requires
     enum-known-need
     enum-told
-    enum-told-2
     returns-3
+    enum-known-need-2
+    enum-told-2
     returns-4
     returns-5)

@@ -19,8 +19,8 @@ abbrev μ-loop : tie.MeasureT-loop
 further-most-requires : tie.Need-further-most-requires Inv-loop μ-loop
 further-most-requires c κs = search needs
 
-first-cluster-requires : tie.Need-first-cluster-requires Inv-loop μ-loop
-first-cluster-requires c κs = search needs
+cluster-with-requires : tie.Need-cluster-with-requires Inv-loop μ-loop
+cluster-with-requires c κs = search needs
 
 loop-holds : tie.Need-loop-holds Inv-loop μ-loop
 loop-holds c = search reading-begins
@@ -89,7 +89,7 @@ package-behind-spec =
     Inv-loop
     μ-loop
     further-most-requires
-    first-cluster-requires
+    cluster-with-requires
     loop-holds
     is-empty-line-requires
     no-package-requires

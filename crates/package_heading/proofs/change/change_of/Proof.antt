@@ -1,7 +1,7 @@
 -- `package_heading::change::change_of` meets its contract: one word after the other. Assumes nothing.
-use borrow.Author.Needs.{needs}
 use Rattle.base.proofs.Ladder.{told-ladder}
 use Rattle.package_heading.specs.Heading.{changeOf}
+use borrow.Author.Needs.{needs}
 use Rattle.package_heading.proofs.change.change_of.Statement.{statement}
 use Rattle.package_heading.proofs.change.change_of.Tie as tie
 

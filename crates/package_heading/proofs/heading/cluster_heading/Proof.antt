@@ -1,9 +1,9 @@
 -- `package_heading::heading::cluster_heading` meets its contract: a version, then the need, filled or empty. Assumes nothing.
-use borrow.Author.Needs.{needs}
 use Rattle.text.proofs.ThenLaws.{chain}
 use Rattle.cluster_list.proofs.ThenLaws.{need-chain}
 use Rattle.package_heading.specs.Heading.{clusterHeading}
 use Rattle.package_heading.proofs.ThenLaws.{in-fields}
+use borrow.Author.Needs.{needs}
 use Rattle.package_heading.proofs.heading.cluster_heading.Statement.{statement}
 use Rattle.package_heading.proofs.heading.cluster_heading.Tie as tie
 
@@ -32,9 +32,6 @@ enum-known-need c = search needs
 enum-told-2 : tie.Need-enum-told-2
 enum-told-2 c = search needs
 
-enum-told-3 : tie.Need-enum-told-3
-enum-told-3 c = search needs
-
 returns-2 : tie.Need-returns-2
 unfolding clusterHeading
 returns-2 c = search (chain, need-chain, in-fields) depth 9
@@ -42,10 +39,6 @@ returns-2 c = search (chain, need-chain, in-fields) depth 9
 returns-3 : tie.Need-returns-3
 unfolding clusterHeading
 returns-3 c = search (chain, need-chain, in-fields) depth 9
-
-returns-4 : tie.Need-returns-4
-unfolding clusterHeading
-returns-4 c = search (chain, need-chain, in-fields) depth 9
 
 pub cluster-heading-spec : {M : Type 1} → statement M
 cluster-heading-spec =
@@ -59,7 +52,5 @@ cluster-heading-spec =
     need-fields-requires
     enum-known-need
     enum-told-2
-    enum-told-3
     returns-2
-    returns-3
-    returns-4)
+    returns-3)

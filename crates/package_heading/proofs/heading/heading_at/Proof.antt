@@ -1,8 +1,8 @@
 -- `package_heading::heading::heading_at` meets its contract, one `let .. else` after the other. Assumes nothing.
-use borrow.Author.Needs.{needs}
 use Rattle.text.proofs.ThenLaws.{chain}
 use Rattle.package_heading.specs.Heading.{firstLine}
 use Rattle.package_heading.proofs.ThenLaws.{change-chain, in-fields}
+use borrow.Author.Needs.{needs}
 use Rattle.package_heading.proofs.heading.heading_at.Statement.{statement}
 use Rattle.package_heading.proofs.heading.heading_at.Tie as tie
 

@@ -1,7 +1,7 @@
 -- `package_heading::heading::payload_heading` meets its contract, one `let .. else` after the other. Assumes nothing.
-use borrow.Author.Needs.{needs}
 use Rattle.text.proofs.ThenLaws.{chain}
 use Rattle.package_heading.proofs.ThenLaws.{in-fields}
+use borrow.Author.Needs.{needs}
 use Rattle.package_heading.proofs.heading.payload_heading.Statement.{statement}
 use Rattle.package_heading.proofs.heading.payload_heading.Tie as tie
 

@@ -1,8 +1,8 @@
--- `manifest::package::first_cluster` meets its contract: a new cluster, with the first need where there is one. Assumes nothing.
+-- `cluster_list::cells::cluster_with` meets its contract: a new cluster, with the need of its line where there is one. Assumes nothing.
+use Rattle.cluster_list.proofs.FirstNeed.{new-room, no-first-need, first-need}
 use borrow.Author.Needs.{needs}
-use Rattle.manifest.proofs.FirstCluster.{new-room, no-first-need, first-need}
-use Rattle.manifest.proofs.package.first_cluster.Statement.{statement}
-use Rattle.manifest.proofs.package.first_cluster.Tie as tie
+use Rattle.cluster_list.proofs.cells.cluster_with.Statement.{statement}
+use Rattle.cluster_list.proofs.cells.cluster_with.Tie as tie
 
 new-cluster-requires : tie.Need-new-cluster-requires
 new-cluster-requires c κs = search needs
@@ -22,7 +22,7 @@ with-need-requires c κs = search new-room
 returns-2 : tie.Need-returns-2
 returns-2 c = search first-need
 
-pub first-cluster-spec : {M : Type 1} → statement M
-first-cluster-spec =
+pub cluster-with-spec : {M : Type 1} → statement M
+cluster-with-spec =
     tie.close
     (tie.spec new-cluster-requires enum-known-need enum-told returns with-need-requires returns-2)

@@ -11,7 +11,7 @@ use borrow.Author.Tests.{le-leb, lt-leb}
 use Rattle.base.proofs.Tests.{clash, none-some}
 use Rattle.cluster_list.specs.Read.{readList}
 use Rattle.model.specs.State.{Store}
-use Rattle.model.specs.Calls.{Call, done, Reply, refused, accepted}
+use Rattle.model.specs.Calls.{Call, done, Reply, accepted}
 use Rattle.model.specs.Step as step
 use Rattle.model.specs.Load as model
 use Rattle.model.specs.Load.{tableOrEmpty, isBadLoad}
@@ -26,9 +26,9 @@ use Rattle.state.specs.declared.state.State.{State}
 use Rattle.state.specs.declared.answer.Answer.the-variants.{Done}
 use Rattle.state.specs.declared.answer.Answered.{Answered}
 use Rattle.state.specs.View.{viewState}
-use Rattle.state.specs.Outcome.{Outcome, outcome, refusedBy, replyOf, viewOutcome}
+use Rattle.state.specs.Outcome.{Outcome, outcome, replyOf, viewOutcome}
 use Rattle.load.specs.Exact.{load}
-use Rattle.load.proofs.Told.{IsOther, bad-load, told-good, told-bad}
+use Rattle.load.proofs.Told.{IsOther, told-good, told-bad}
 use Rattle.call_rows.specs.Rows.{decoded, isGiven}
 use Rattle.call_rows.proofs.RowListLaws.{six-for-each}
 use Rattle.manager.specs.Accepts.{exactStep}
@@ -39,7 +39,7 @@ use Rattle.call_list.specs.Answers.{wordsOf}
 use Rattle.call_list.specs.Replies.{loadReply}
 use Rattle.call_list.specs.WholeList.{replied, listOutcome, outcomeOf, MadeFrom}
 use Rattle.call_list.specs.DemandOfCalls.{DemandOfCalls}
-use Rattle.call_list.specs.Loaded.{loadAndRunOutcome, journalOf, DemandMet}
+use Rattle.call_list.specs.Loaded.{loadAndRunOutcome, DemandMet}
 use Rattle.call_list.proofs.RunWays.{given-cases}
 use Rattle.call_list.proofs.DemandLaws.{demand-of-calls}
 

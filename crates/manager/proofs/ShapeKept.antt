@@ -1,6 +1,6 @@
 -- Every call leaves the arrays of a State their room: a refused one gives the State back, and an accepted one puts into places that
 -- soundness says are there. Assumes nothing.
-use Prim.Native.Nat.{ℕ, _≤_}
+use Prim.Native.Nat.{ℕ}
 use mathlib.Core.Path.{_≡_, refl, sym, ap, _∙_}
 use mathlib.Core.Bool.{Bool, true, false}
 use mathlib.Core.List.{List, [], _∷_}
@@ -28,7 +28,6 @@ use Rattle.state.specs.declared.session.Entry.{Entry}
 use Rattle.state.specs.declared.session.Session.{Session}
 use Rattle.state.specs.declared.phase.Phase.{Phase}
 use Rattle.state.specs.declared.phase.Phase.the-variants.{Idle, Ready, Processing, Activating, Verifying, Activated, RollingBack, RolledBack, CleaningUp}
-use Rattle.state.specs.declared.phase.CleanUpOrigin.{CleanUpOrigin}
 use Rattle.state.specs.declared.work.Work.{Work}
 use Rattle.state.specs.declared.state.State.{State}
 use Rattle.state.specs.declared.answer.Answered.{Answered}
@@ -40,12 +39,12 @@ use Rattle.areas.specs.declared.deletion.Deletion.{Deletion}
 use Rattle.areas.specs.declared.deletion.Deletion.the-variants.{WithId, AllProcessed}
 use Rattle.areas.specs.Place.{placeOf}
 use Rattle.areas.specs.Changed.{changedAt, withChanged}
-use Rattle.areas.specs.Deletion.{kept, remainingTransfers}
+use Rattle.areas.specs.Deletion.{remainingTransfers}
 use Rattle.areas.proofs.FoundPackage.{count-fits, found-at}
 use Rattle.areas.proofs.Kept.{length-kept}
 use Rattle.staging.specs.Staged.{stagedFrom, stagedTable, runsStaged, runningTable}
 use Rattle.work_on_payload.proofs.WorkedRoom.{worked-room}
-use Rattle.report.specs.Reported.{activatingReported, reported}
+use Rattle.report.specs.Reported.{reported}
 use Rattle.manager.specs.Accepts.{accepts, exactStep, Shaped}
 
 -- ---- packages

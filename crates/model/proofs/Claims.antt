@@ -32,7 +32,7 @@ use Rattle.model.specs.Accepted.{Accepted}
 use Rattle.model.proofs.transitions.Refused as refusing
 use Rattle.model.proofs.transitions.NoOtherRefusal.{accepted-exactly}
 use Rattle.model.proofs.reading.Payload.{given-exactly}
-use Rattle.model.proofs.journal.Lists.{state-last, store-last}
+use Rattle.model.proofs.journal.Lists.{state-last, store-last, stands-at}
 use Rattle.model.proofs.journal.Demand3 as every
 use Rattle.model.proofs.journal.SessionTable.{last-session}
 use Rattle.model.proofs.journal.Opened.{load-invariant, load-length}
@@ -139,7 +139,7 @@ module _ (given : State) (list : List ℕ) (first : ℕ) (lent : Store)
   processing-reads-a-package calls =
       every.processing-reads _ _ _ (every.list-keeps _ _ _ calls (load-invariant given list first lent is-accepted))
 
-  -- the same of a session of a list that goes on with others
+  -- of a session of a list that goes on with others: "the table when that session began" of demand 3 of the longer list
   began-within : (calls session rest : List Call) → isIdle (after calls .state .phase) ≡ true
       → sessionGoesOn (after calls .state) (after calls .store) session ≡ true
       → journalOf (calls ++ session) .B ≡ running (after calls .state)
@@ -221,7 +221,9 @@ module _ (given : State) (list : List ℕ) (first : ℕ) (lent : Store)
   sound-after-every-call calls = agrees calls .staysSound
 
   pub no-call-refused-by-1 : (calls : List Call) (m : Made) → List·Memᴰ m (after calls .made) → m .reply ≡ refused 1 → ⊥
-  no-call-refused-by-1 calls = every.never-refused-by-1 calls _ _ _ (load-invariant given list first lent is-accepted)
+  no-call-refused-by-1 calls m at e =
+      let here = stands-at calls (loaded .state) (loaded .store) m at in
+      demand3 calls .afterEach (here .before) (here .call ∷ here .rest) (here .split) .notRefusedBy1 (here .call) (sym (here .reply) ∙ e)
 
   -- ---- the store
 

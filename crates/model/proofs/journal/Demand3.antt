@@ -1,20 +1,19 @@
 -- Demand 3 of the definitions, from any start that the invariant ties to a journal. One induction over the list of calls keeps
 -- the invariant; what demand 3 says follows from the invariant at the end of the list. Assumes nothing.
-use mathlib.Core.Path.{_≡_, refl, sym, ap, _∙_}
+use mathlib.Core.Path.{_≡_, refl, sym, _∙_}
 use mathlib.Core.Bool.{true, false}
-use mathlib.Core.List.{List, [], _∷_, _++_, List·Memᴰ, List·Memᴰ·not-nil, List·Memᴰ·cases-cons}
-use mathlib.Core.Logic.{inl, inr}
+use mathlib.Core.List.{List, [], _∷_, _++_}
 use mathlib.Core.Option.{Option, none, some}
 use lib.ListN.{length}
 use borrow.Author.Tests.{not-true}
 use Rattle.base.proofs.Tests.{clash}
 use Rattle.manifest.specs.Package.{Manifest, consistent, readPackage}
 use Rattle.model.specs.State.{isIdle, isProcessing, Work, State, Store}
-use Rattle.model.specs.Calls.{Call, refused}
+use Rattle.model.specs.Calls.{Call}
 use Rattle.model.specs.Tables.{running}
 use Rattle.model.specs.Sound.{keptSound}
 use Rattle.model.specs.Step.{step}
-use Rattle.model.specs.Run.{Made, run}
+use Rattle.model.specs.Run.{run}
 use Rattle.model.specs.Journal.{Journal, noted, journal}
 use Rattle.model.specs.Demand3.{TableAtReturn, sessionGoesOn, AgreesWith, Demand3}
 use Rattle.model.proofs.soundness.SoundFacts.{sound-says}
@@ -105,17 +104,6 @@ processing-reads j s store i e = go (s .work) (sound-says s store (i .isSound) .
         → KeptFrom j (s .transfers .packages) remaining → (m : Manifest) × (readPackage (j .blocks (j .lastProcess)) ≡ consistent m)
     go none h k = clash e (not-true _ h)
     go (some w) h k = (manifestKept w, k .read)
-
--- no call of a list is refused by 1
-pub never-refused-by-1 : (calls : List Call) (j : Journal) (s : State) (store : Store) → Invariant j s store
-    → (m : Made) → List·Memᴰ m (run s store calls .made) → m .reply ≡ refused 1 → ⊥
-unfolding run
-never-refused-by-1 [] j s store i m at e = List·Memᴰ·not-nil at
-never-refused-by-1 (call ∷ calls) j s store i m at e =
-    elim (List·Memᴰ·cases-cons at) [
-      | inl same ↦ never-unsound s store call (i .isSound) (ap (λ (x : Made). x .reply) (sym same) ∙ e)
-      | inr later ↦ never-refused-by-1 calls _ _ _ (step-keeps j s store call i) m later e
-    ]
 
 -- every list of calls leaves the store's length
 pub length-stays : (calls : List Call) (s : State) (store : Store) → length (run s store calls .store) ≡ length store

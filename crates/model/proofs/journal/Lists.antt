@@ -1,7 +1,8 @@
--- Lists of calls: one call more at the end, and the one induction by which what every call keeps holds after every list.
--- Assumes nothing.
+-- Lists of calls: one call more at the end, where a call stands, and the one induction by which what every call keeps holds after every
+-- list. Assumes nothing.
 use mathlib.Core.Path.{_≡_, refl, ap, _∙_}
-use mathlib.Core.List.{List, [], _∷_, _++_}
+use mathlib.Core.List.{List, [], _∷_, _++_, List·Memᴰ, List·Memᴰ·not-nil, List·Memᴰ·cases-cons}
+use mathlib.Core.Logic.{inl, inr}
 use Rattle.model.specs.State.{State, Store}
 use Rattle.model.specs.Calls.{Call}
 use Rattle.model.specs.Step.{Outcome, step}
@@ -53,6 +54,32 @@ module _ (s : State) (store : Store) (calls : List Call) (call : Call) where
   unfolding journal
   journal-last j =
       ap (λ (r : Run). journal j (r .made)) run-last ∙ journal-append j (before .made) (record { call = call; reply = last .reply } ∷ [])
+
+-- ---- a call of a list
+
+-- where a call with its reply stands: the calls before it, and the rest behind it
+pub record StandsAt (s : State) (store : Store) (calls : List Call) (m : Made) : Type 0 where
+  pub before : List Call
+  pub call : Call
+  pub rest : List Call
+  pub split : before ++ call ∷ rest ≡ calls
+  pub reply : m .reply ≡ step (run s store before .state) (run s store before .store) call .reply
+
+pub stands-at : (calls : List Call) (s : State) (store : Store) (m : Made) → List·Memᴰ m (run s store calls .made) → StandsAt s store calls m
+unfolding run
+stands-at [] s store m at = absurd (List·Memᴰ·not-nil at)
+stands-at (call ∷ calls) s store m at =
+    elim (List·Memᴰ·cases-cons at) [
+      | inl same ↦ record { before = []; call = call; rest = calls; split = refl; reply = ap (λ (x : Made). x .reply) same }
+      | inr later ↦ (let there = stands-at calls _ _ m later in
+          record {
+            before = call ∷ there .before;
+            call = there .call;
+            rest = there .rest;
+            split = ap (λ (l : List Call). call ∷ l) (there .split);
+            reply = there .reply;
+          })
+    ]
 
 -- ---- what every call keeps
 

@@ -8,7 +8,7 @@ use Prim.Native.Nat.{ℕ, _+_, _-_, _≤_}
 use native.Mathlib.Nat.{sub-zero}
 use native.Mathlib.Omega.{arith}
 use lib.Dec.{eqb}
-use lib.ListN.{length, take, drop, replicate, length-append, length-replicate, replicate-append-replicate}
+use lib.ListN.{length, take, drop, length-append, length-replicate, replicate-append-replicate}
 use lib.Seq.{take-at, drop-at}
 use borrow.Author.Tests.{eqb-true}
 use Rattle.base.proofs.Tests.{bool-cases, none-some}

@@ -1,22 +1,18 @@
--- The records of the first i packages and one more, and what the records of all stand for. Assumes nothing.
-use Prim.Native.Nat.{ℕ, zero, suc, _+_, _≤_, _<_}
-use mathlib.Core.Path.{_≡_, refl, sym, ap, _∙_}
-use mathlib.Core.List.{List, [], _∷_, map, map-map}
+-- The records of the first i packages, one more, and those of all. Assumes nothing.
+use Prim.Native.Nat.{ℕ, zero, suc, _+_, _<_}
+use mathlib.Core.Path.{_≡_, refl, ap, _∙_}
+use mathlib.Core.List.{List, [], _∷_, map}
 use native.Mathlib.Numerals.{add-one}
 use native.Mathlib.Omega.{arith}
-use lib.ListN.{length, take, getD, set, replicate, length-take, length-map}
-use Rattle.base.proofs.Counted.{counted-few}
+use lib.ListN.{length, take, getD, set, replicate}
 use Rattle.model.specs.Sound.{packagesMost}
-use Rattle.model.specs.Reading.{packageRecord}
 use Rattle.state.specs.declared.package.Package.{Package}
 use Rattle.state.specs.declared.transfers.Transfers.{Transfers}
-use Rattle.state.specs.View.{viewPackage, clearedPackage, viewPackages}
-use Rattle.state.proofs.Views.{packages-few}
+use Rattle.state.specs.View.{clearedPackage}
 use Rattle.areas.specs.FirstPlaces.{putFirst}
-use Rattle.areas.proofs.FirstPlaces.{take-first}
 use Rattle.packages_report.specs.declared.Record.{Record}
 use Rattle.packages_report.specs.declared.records.Records.{Records}
-use Rattle.packages_report.specs.Records.{recordOf, clearedRecord, recordsOf, viewRecord, viewRecords}
+use Rattle.packages_report.specs.Records.{recordOf, clearedRecord, recordsOf}
 
 -- of the first i packages, with every place behind them cleared
 abbrev pub firstRecords : ℕ → List Package → List Record
@@ -36,25 +32,8 @@ pub one-more : (i : ℕ) (ps : List Package) (records : List Record) (r : Record
 one-more i ps records r below room e f =
     rw (e, f, add-one) (put-next recordOf i ps (replicate packagesMost clearedRecord) clearedPackage below room)
 
--- what the records of all packages stand for
-view-records : (t : Transfers) → t .count ≤ packagesMost → length (t .packages) ≡ packagesMost
-    → viewRecords (recordsOf t) ≡ map packageRecord (viewPackages t)
-view-records t few long =
-    let counting = take (t .count) (t .packages) in
-    let first = map recordOf counting in
-    let all : length first ≡ t .count = simp (length-map, length-take) (omega arith) in
-    ap (map viewRecord)
-    (counted-few packagesMost (t .count) clearedRecord (recordsOf t .records) few
-    ∙ take-first first (replicate packagesMost clearedRecord) (t .count) all)
-    ∙ map-map viewRecord recordOf counting
-    ∙ sym (map-map packageRecord viewPackage counting)
-    ∙ ap (map packageRecord) (sym (packages-few t few))
-
 -- a loop that has passed all packages
-pub records-done : (t : Transfers) (i : ℕ) (records : List Record) → t .count ≤ packagesMost → length (t .packages) ≡ packagesMost
-    → records ≡ firstRecords i (t .packages) → i ≡ t .count
-    → (let r : Records = record { records = records; count = t .count } in (viewRecords r ≡ map packageRecord (viewPackages t)) × (r ≡ recordsOf t))
-records-done t i records few long e end =
-    let all : records ≡ firstRecords (t .count) (t .packages) = e ∙ ap (λ (n : ℕ). firstRecords n (t .packages)) end in
-    let exact = ap {B = Records} (λ (rs : List Record). record { records = rs; count = t .count }) all in
-    (ap viewRecords exact ∙ view-records t few long, exact)
+pub records-done : (t : Transfers) (i : ℕ) (records : List Record) → records ≡ firstRecords i (t .packages) → i ≡ t .count
+    → record { records = records; count = t .count } ≡ recordsOf t
+records-done t i records e end =
+    ap {B = Records} (λ (rs : List Record). record { records = rs; count = t .count }) (e ∙ ap (λ (n : ℕ). firstRecords n (t .packages)) end)

@@ -1,7 +1,6 @@
 -- The records of Packages as structs, and what they stand for: "records (id, size, received, state) in id order".
-use mathlib.Core.List.{List, map}
+use mathlib.Core.List.{map}
 use lib.ListN.{take, replicate}
-use Rattle.base.specs.Counted.{counted}
 use Rattle.model.specs.State.{packageStateNumber}
 use Rattle.model.specs.Sound.{packagesMost}
 use Rattle.model.specs.Reading.{PackageRecord}
@@ -32,6 +31,3 @@ recordsOf t =
 
 abbrev pub viewRecord : Record → PackageRecord
 viewRecord r = record { id = r .id; size = r .size; received = r .received; state = r .state }
-
-abbrev pub viewRecords : Records → List PackageRecord
-viewRecords r = map viewRecord (counted packagesMost clearedRecord (r .count) (r .records))

@@ -6,13 +6,11 @@ use state::package::Package;
 use state::package::PackageState;
 use state::transfers::Transfers;
 ghost use mathlib.Core.Path.{_≡_};
-ghost use mathlib.Core.List.{map};
 ghost use Prim.Native.Nat.{_≤_};
 ghost use Rattle.model.specs.State.{packageStateNumber};
 ghost use Rattle.model.specs.Sound.{packagesMost};
-ghost use Rattle.model.specs.Reading.{packageRecord};
-ghost use Rattle.state.specs.View.{viewPackageState, viewPackages};
-ghost use Rattle.packages_report.specs.Records.{recordOf, recordsOf, viewRecords};
+ghost use Rattle.state.specs.View.{viewPackageState};
+ghost use Rattle.packages_report.specs.Records.{recordOf, recordsOf};
 
 // The first count of the records count; the places behind them are cleared.
 pub struct Records {
@@ -46,8 +44,7 @@ fn record_of(p: Package) -> Record
 // The records of all packages. A sound state meets what is required.
 pub fn records_of(t: Transfers) -> Records
     requires { ⌜ t .count ≤ packagesMost ⌝ }
-    ensures meaning { λ r. ⌜ viewRecords r ≡ map packageRecord (viewPackages t) ⌝ }
-    ensures exact { λ r. ⌜ r ≡ recordsOf t ⌝ }
+    ensures { λ r. ⌜ r ≡ recordsOf t ⌝ }
 {
     let count = t.count;
     let cleared = cleared_record();

@@ -55,7 +55,7 @@ loop-again c =
 returns : tie.Need-returns Inv-loop μ-loop
 returns c =
     let l = c .before in
-    records-done (l .before .before .args .t1) (l .loop .i) _ (l .before .before .pre) (long (l .before .before)) (l .loop .inv .1) (omega arith)
+    records-done (l .before .before .args .t1) (l .loop .i) _ (l .loop .inv .1) (omega arith)
 
 pub records-of-spec : {M : Type 1} → statement M
 records-of-spec =

@@ -34,14 +34,14 @@ returns-2 c =
     let d = c .before .before in
     let a = d .before .before .before in
     let ok = told-yes _ _ (d .before .before .before .sound .ensures) (d .before .before .if1 .left) in
-    short-report (a .before .args .s) (a .before .args .size) (a .before .args .room) _ ok (sound-count (a .before .args .s) _ ok) (long (a .before)) _ (d .records-of .ensures .1) (c .before .if2 .taken) (c .none-written2 .ensures)
+    short-report (a .before .args .s) (a .before .args .size) (a .before .args .room) _ ok (sound-count (a .before .args .s) _ ok) (long (a .before)) _ (d .records-of .ensures) (c .before .if2 .taken) (c .none-written2 .ensures)
 
 returns-3 : tie.Need-returns-3
 returns-3 c =
     let d = c .before in
     let a = d .before .before .before in
     let ok = told-yes _ _ (d .before .before .before .sound .ensures) (d .before .before .if1 .left) in
-    written-report (a .before .args .s) (a .before .args .size) (a .before .args .room) _ ok (sound-count (a .before .args .s) _ ok) (long (a .before)) _ (d .records-of .ensures .1) (c .if2 .left) refl
+    written-report (a .before .args .s) (a .before .args .size) (a .before .args .room) _ ok (sound-count (a .before .args .s) _ ok) (long (a .before)) _ (d .records-of .ensures) (c .if2 .left) refl
 
 pub report-within-spec : {M : Type 1} → statement M
 report-within-spec =

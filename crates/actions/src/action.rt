@@ -3,10 +3,13 @@ use crate::place::insert;
 use crate::place::replace;
 use crate::place::take_out;
 use clusters::cluster::Cluster;
+use clusters::cluster::new_cluster;
 use clusters::table::CLUSTERS_MOST;
 use clusters::table::Table;
+use text::version::Version;
 ghost use mathlib.Core.Path.{_≡_};
 ghost use Rattle.actions.specs.Exact.{apply};
+ghost use Rattle.actions.specs.Struct.{clearedAction};
 
 pub enum Change {
     Install,
@@ -18,6 +21,23 @@ pub enum Change {
 pub struct Action {
     pub change: Change,
     pub cluster: Cluster,
+}
+
+// An action with every number 0 and no needs.
+pub fn cleared_action() -> Action
+    ensures { λ r. ⌜ r ≡ clearedAction ⌝ }
+{
+    let no_version = Version {
+        first: 0,
+        second: 0,
+        third: 0,
+        fourth: 0,
+    };
+    let cluster = new_cluster(0, no_version);
+    Action {
+        change: Change::Install,
+        cluster: cluster,
+    }
 }
 
 // The table with an action applied. A table whose count does not fit is left as it is, and so is a full one by an install.

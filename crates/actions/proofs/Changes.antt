@@ -3,10 +3,11 @@
 use mathlib.Core.Path.{_≡_, refl, sym, ap, _∙_}
 use mathlib.Core.Bool.{Bool, true, false, not, _||_}
 use mathlib.Core.List.{List, [], _∷_, _++_}
-use mathlib.Core.Option.{none, some}
+use mathlib.Core.Option.{Option, none, some}
 use Prim.Native.Nat.{ℕ}
 use native.Mathlib.Omega.{arith}
 use lib.Dec.{eqb, ltb}
+use lib.ListN.{length}
 use borrow.Author.Tests.{ltb-true, not-true, not-false, eq-eqb, ne-eqb}
 use Rattle.base.specs.Refusals.{noneApplies}
 use Rattle.base.proofs.Tests.{and-left, and-right, or-first, clash, none-some}
@@ -14,26 +15,27 @@ use Rattle.text.specs.declared.version.Version.{Version}
 use Rattle.clusters.specs.Version.{above}
 use Rattle.clusters.specs.Cluster.{Cluster}
 use Rattle.clusters.specs.Table.{Table, find}
-use Rattle.clusters.proofs.Finding.{absent-is, present-is}
 use Rattle.actions.specs.Action.{Action, install, update, remove, actionPart, apply, applyAll}
 use Rattle.actions.specs.Refusals.{touched, clusterPresent, clusterAbsent, oldVersion, tableFull, actionRefusals, passes, passInTurn}
+use Rattle.actions.proofs.StagedLaws.{not-staged, staged-is}
 use Rattle.actions.proofs.Finding.{insert-other, replace-other, take-out-other, insert-same, replace-same, take-out-same}
 
 -- what passing 11 to 15 says
 pub record Passes (t : Table) (listed : List Action) (a : Action) : Type 0 where
   pub untouched : touched (actionPart a) listed ≡ false
-  pub not-present : clusterPresent t a ≡ false
-  pub not-absent : clusterAbsent t a ≡ false
-  pub newer : oldVersion t a ≡ false
-  pub room : tableFull t a ≡ false
+  pub not-present : clusterPresent (find (actionPart a) t) a ≡ false
+  pub not-absent : clusterAbsent (find (actionPart a) t) a ≡ false
+  pub newer : oldVersion (find (actionPart a) t) a ≡ false
+  pub room : tableFull (length t) a ≡ false
 
 pub passes-says : (t : Table) (listed : List Action) (a : Action) → passes t listed a ≡ true → Passes t listed a
 unfolding passes actionRefusals noneApplies
 passes-says t listed a h =
+    let staged = find (actionPart a) t in
     let h12 = and-right (not (touched (actionPart a) listed)) _ h in
-    let h13 = and-right (not (clusterPresent t a)) _ h12 in
-    let h14 = and-right (not (clusterAbsent t a)) _ h13 in
-    let h15 = and-right (not (oldVersion t a)) _ h14 in
+    let h13 = and-right (not (clusterPresent staged a)) _ h12 in
+    let h14 = and-right (not (clusterAbsent staged a)) _ h13 in
+    let h15 = and-right (not (oldVersion staged a)) _ h14 in
     record {
       untouched = not-true _ (and-left _ _ h);
       not-present = not-true _ (and-left _ _ h12);
@@ -53,22 +55,24 @@ unfolding above
 above-irrefl v e =
     ltb-irrefl (v .fourth) (rw (eq-eqb (v .first) (v .first) refl, eq-eqb (v .second) (v .second) refl, eq-eqb (v .third) (v .third) refl) at e)
 
-newer-is : (c old : Cluster) (t : Table) → find (c .part) t ≡ some old → oldVersion t (update c) ≡ false → above (c .version) (old .version) ≡ true
+newer-is : (c old : Cluster) (staged : Option Cluster) → staged ≡ some old → oldVersion staged (update c) ≡ false → above (c .version) (old .version) ≡ true
 unfolding oldVersion
-newer-is c old t e h = not-false _ (rw (e, oldVersion) at h)
+newer-is c old staged e h = not-false _ (rw e at h)
 
-changed : (a : Action) (t : Table) → clusterPresent t a ≡ false → clusterAbsent t a ≡ false → oldVersion t a ≡ false → find (actionPart a) (apply a t) ≡ find (actionPart a) t → ⊥
-unfolding clusterPresent clusterAbsent apply
-changed (install c) t h12 h13 h14 e =
-    let a : find (c .part) t ≡ none = absent-is (c .part) t h12 in
-    none-some (sym a ∙ sym e ∙ insert-same c t a)
-changed (update c) t h12 h13 h14 e =
-    let w = present-is (c .part) t (not-false _ h13) in
-    let q : w .0 ≡ c = cc (replace-same c (w .0) t (w .1), w .1) in
-    above-irrefl (c .version) (rw q at (newer-is c (w .0) t (w .1) h14))
-changed (remove part) t h12 h13 h14 e =
-    let w = present-is part t (not-false _ h13) in
-    none-some (sym (take-out-same part t) ∙ e ∙ w .1)
+module _ (t : Table) where
+  changed : (a : Action) → clusterPresent (find (actionPart a) t) a ≡ false → clusterAbsent (find (actionPart a) t) a ≡ false
+      → oldVersion (find (actionPart a) t) a ≡ false → find (actionPart a) (apply a t) ≡ find (actionPart a) t → ⊥
+  unfolding clusterPresent clusterAbsent apply
+  changed (install c) h12 h13 h14 e =
+      let a : find (c .part) t ≡ none = not-staged (find (c .part) t) h12 in
+      none-some (sym a ∙ sym e ∙ insert-same c t a)
+  changed (update c) h12 h13 h14 e =
+      let w = staged-is (find (c .part) t) (not-false _ h13) in
+      let q : w .0 ≡ c = cc (replace-same c (w .0) t (w .1), w .1) in
+      above-irrefl (c .version) (rw q at (newer-is c (w .0) (find (c .part) t) (w .1) h14))
+  changed (remove part) h12 h13 h14 e =
+      let w = staged-is (find part t) (not-false _ h13) in
+      none-some (sym (take-out-same part t) ∙ e ∙ w .1)
 
 pub apply-other : (a : Action) (t : Table) (part : ℕ) → eqb part (actionPart a) ≡ false → find part (apply a t) ≡ find part t
 unfolding apply
@@ -115,7 +119,7 @@ differs t a acts h e =
     let part = actionPart a in
     let p = passes-says t [] a (and-left _ _ h) in
     let own : touched part (a ∷ []) ≡ true = touched-one part a ∙ eq-eqb part part refl in
-    changed a t (p .not-present) (p .not-absent) (p .newer) (sym (stays acts (a ∷ []) (apply a t) part own (and-right (passes t [] a) _ h)) ∙ ap (find part) e)
+    changed t a (p .not-present) (p .not-absent) (p .newer) (sym (stays acts (a ∷ []) (apply a t) part own (and-right (passes t [] a) _ h)) ∙ ap (find part) e)
 
 -- a list of actions that pass 11 to 15 in turn, and is not empty, gives another table than the one it began with
 pub passed-changes : (t : Table) (acts : List Action) → passInTurn t [] acts ≡ true → (acts ≡ [] → ⊥) → applyAll t acts ≡ t → ⊥

@@ -8,7 +8,7 @@ use Rattle.base.specs.Refusals.{Refusal, firstRefusal, noneApplies}
 use Rattle.text.specs.Version.{version, versionWithin}
 use Rattle.clusters.specs.Version.{above}
 use Rattle.clusters.specs.Cluster.{Cluster, cluster, need, partWithin, needsWithin, clusterWithin}
-use Rattle.clusters.specs.Table.{Table, find, present}
+use Rattle.clusters.specs.Table.{Table, find}
 use Rattle.base.proofs.Tables.{_gives_, AllHold}
 use Rattle.clusters.proofs.Examples.{plain, plainTo}
 use Rattle.actions.specs.declared.action.Change.the-variants.{Install, Update, Remove}
@@ -184,45 +184,36 @@ pub refusals : AllHold answered (
     ∷ asked full [] (install (plain 64)) gives refusedBy 12 (15 ∷ [])
     ∷ asked full (install (plain 64) ∷ []) (install (plain 64)) gives refusedBy 11 (12 ∷ 15 ∷ [])
     ∷ [])
-unfolding firstRefusal noneApplies above find present touched clusterPresent clusterAbsent oldVersion tableFull actionRefusals actionRefusal passes
+unfolding firstRefusal noneApplies above find touched clusterPresent clusterAbsent oldVersion tableFull actionRefusals actionRefusal passes
 refusals = refl
 
 -- no other two apply at once
-pub record Excluded (t : Table) (a : Action) : Type 0 where
-  pub presentAbsent : clusterPresent t a && clusterAbsent t a ≡ false
-  pub presentOld : clusterPresent t a && oldVersion t a ≡ false
-  pub absentOld : clusterAbsent t a && oldVersion t a ≡ false
-  pub absentFull : clusterAbsent t a && tableFull t a ≡ false
-  pub oldFull : oldVersion t a && tableFull t a ≡ false
+pub record Excluded (staged : Option Cluster) (count : ℕ) (a : Action) : Type 0 where
+  pub presentAbsent : clusterPresent staged a && clusterAbsent staged a ≡ false
+  pub presentOld : clusterPresent staged a && oldVersion staged a ≡ false
+  pub absentOld : clusterAbsent staged a && oldVersion staged a ≡ false
+  pub absentFull : clusterAbsent staged a && tableFull count a ≡ false
+  pub oldFull : oldVersion staged a && tableFull count a ≡ false
 
 and-no : (b : Bool) → b && false ≡ false
 and-no true = refl
 and-no false = refl
 
-absent-not-old : (t : Table) (c : Cluster) → not (present (c .part) t) && oldVersion t (update c) ≡ false
-unfolding present oldVersion
-absent-not-old t c = go (find (c .part) t)
-  where
-    go : (o : Option Cluster) → not (elim o as (λ x. Bool) [ none ↦ false | some d ↦ true ]) && (elim o as (λ x. Bool) [ none ↦ false | some d ↦ not (above (c .version) (d .version)) ]) ≡ false
-    go none = refl
-    go (some d) = refl
-
-pub excluded : (t : Table) (a : Action) → Excluded t a
+pub excluded : (staged : Option Cluster) (count : ℕ) (a : Action) → Excluded staged count a
 unfolding clusterPresent clusterAbsent oldVersion tableFull
-excluded t (install c) =
-    let no = and-no (present (c .part) t) in
-    record { presentAbsent = no; presentOld = no; absentOld = refl; absentFull = refl; oldFull = refl }
-excluded t (update c) =
-    record {
-      presentAbsent = refl;
-      presentOld = refl;
-      absentOld = absent-not-old t c;
-      absentFull = and-no (not (present (c .part) t));
-      oldFull = and-no (oldVersion t (update c));
-    }
-excluded t (remove part) =
-    let no = and-no (not (present part t)) in
-    record { presentAbsent = refl; presentOld = refl; absentOld = no; absentFull = no; oldFull = refl }
+excluded none count (install c) =
+    record { presentAbsent = refl; presentOld = refl; absentOld = refl; absentFull = refl; oldFull = refl }
+excluded (some d) count (install c) =
+    record { presentAbsent = refl; presentOld = refl; absentOld = refl; absentFull = refl; oldFull = refl }
+excluded none count (update c) =
+    record { presentAbsent = refl; presentOld = refl; absentOld = refl; absentFull = refl; oldFull = refl }
+excluded (some d) count (update c) =
+    let no = and-no (not (above (c .version) (d .version))) in
+    record { presentAbsent = refl; presentOld = refl; absentOld = refl; absentFull = refl; oldFull = no }
+excluded none count (remove part) =
+    record { presentAbsent = refl; presentOld = refl; absentOld = refl; absentFull = refl; oldFull = refl }
+excluded (some d) count (remove part) =
+    record { presentAbsent = refl; presentOld = refl; absentOld = refl; absentFull = refl; oldFull = refl }
 
 -- ---- in turn
 
@@ -247,5 +238,5 @@ pub turns : AllHold inTurn (
     ∷ (full, [], remove 1 ∷ install (plain 65) ∷ []) gives true
     ∷ (full, [], install (plain 65) ∷ remove 1 ∷ []) gives false
     ∷ [])
-unfolding noneApplies above find present insert replace takeOut apply touched clusterPresent clusterAbsent oldVersion tableFull actionRefusals passes passInTurn
+unfolding noneApplies above find insert replace takeOut apply touched clusterPresent clusterAbsent oldVersion tableFull actionRefusals passes passInTurn
 turns = refl

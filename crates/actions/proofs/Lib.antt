@@ -1,10 +1,10 @@
 pub mod Arrays
+pub mod StagedLaws
 pub mod Finding
 pub mod Changes
 pub mod Limits
 pub mod InTurn
 pub mod Placing
-pub mod Answers
 pub mod Views
 pub mod Structs
 pub mod Examples

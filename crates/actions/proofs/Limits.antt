@@ -12,9 +12,9 @@ use Rattle.base.proofs.Tests.{and-left, and-right, bool-cases, none-some}
 use Rattle.clusters.specs.Cluster.{Cluster, partWithin, clusterWithin}
 use Rattle.clusters.specs.Table.{Table, find, risingAbove, tableWithin, clustersMost}
 use Rattle.clusters.proofs.Limits.{rising-says, rising-is, few-clusters, rising-clusters, table-is-within}
-use Rattle.clusters.proofs.Finding.{absent-is}
-use Rattle.actions.specs.Action.{Action, install, update, remove, insert, replace, takeOut, apply, applyAll, actionWithin, actionsWithin}
+use Rattle.actions.specs.Action.{Action, install, update, remove, actionPart, insert, replace, takeOut, apply, applyAll, actionWithin, actionsWithin}
 use Rattle.actions.specs.Refusals.{clusterPresent, tableFull, passes, passInTurn}
+use Rattle.actions.proofs.StagedLaws.{not-staged}
 use Rattle.actions.proofs.Changes.{passes-says}
 
 part-at-least-one : (c : Cluster) → clusterWithin c ≡ true → 0 < c .part
@@ -79,11 +79,12 @@ length-take-out part (d ∷ t) = let ih = length-take-out part t in bool-cases (
 
 -- ---- actions
 
-applied : (a : Action) (t : Table) → actionWithin a ≡ true → clusterPresent t a ≡ false → tableFull t a ≡ false → tableWithin t ≡ true → tableWithin (apply a t) ≡ true
+applied : (a : Action) (t : Table) → actionWithin a ≡ true → clusterPresent (find (actionPart a) t) a ≡ false → tableFull (length t) a ≡ false
+    → tableWithin t ≡ true → tableWithin (apply a t) ≡ true
 unfolding actionWithin clusterPresent tableFull apply
 applied (install c) t fine h12 h15 h =
     table-is-within (insert c t) (rw (length-insert c t) (omega (arith, leb-false clustersMost (length t) h15)))
-    (rising-insert c fine 0 t (part-at-least-one c fine) (absent-is (c .part) t h12) (rising-clusters t h))
+    (rising-insert c fine 0 t (part-at-least-one c fine) (not-staged (find (c .part) t) h12) (rising-clusters t h))
 applied (update c) t fine h12 h15 h =
     table-is-within (replace c t) (rw (length-replace c t) (few-clusters t h)) (rising-replace c fine 0 t (rising-clusters t h))
 applied (remove part) t fine h12 h15 h =

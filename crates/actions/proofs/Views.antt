@@ -122,7 +122,7 @@ view-apply t listed a long h p =
     few : t .count ≤ clustersMost
     few = few-of-within t h
 
-    go : (k : Change) → tableFull (viewTable t) (actionOf k (viewCluster (a .cluster))) ≡ false → viewTable (exact.change k (a .cluster) t) ≡ apply (actionOf k (viewCluster (a .cluster))) (viewTable t)
+    go : (k : Change) → tableFull (length (viewTable t)) (actionOf k (viewCluster (a .cluster))) ≡ false → viewTable (exact.change k (a .cluster) t) ≡ apply (actionOf k (viewCluster (a .cluster))) (viewTable t)
     go Install r = view-install (a .cluster) t long few r
     go Update r = view-replace (a .cluster) t h
     go Remove r = view-take-out (a .cluster .part) t h

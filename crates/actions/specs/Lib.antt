@@ -1,5 +1,6 @@
 pub mod Action
 pub mod Refusals
+pub mod Staged
 pub mod View
 pub mod Struct
 pub mod Place

@@ -2,12 +2,13 @@
 use Prim.Native.Nat.{ℕ}
 use mathlib.Core.Bool.{Bool, true, false, not, _&&_, _||_}
 use mathlib.Core.List.{List, [], _∷_, _++_}
-use mathlib.Core.Option.{none, some}
+use mathlib.Core.Option.{Option, none, some}
 use lib.Dec.{eqb, leb}
 use lib.ListN.{length}
 use Rattle.base.specs.Refusals.{Refusal, refuse_when_, noneApplies, firstRefusal, numberOrZero}
 use Rattle.clusters.specs.Version.{above}
-use Rattle.clusters.specs.Table.{Table, find, present, clustersMost}
+use Rattle.clusters.specs.Cluster.{Cluster}
+use Rattle.clusters.specs.Table.{Table, find, clustersMost}
 use Rattle.actions.specs.Action.{Action, install, update, remove, actionPart, apply}
 
 -- "11. ClusterTouched: Process; the session's list has the cluster."
@@ -15,41 +16,55 @@ unfoldable pub touched : ℕ → List Action → Bool
 touched part [] = false
 touched part (a ∷ rest) = eqb part (actionPart a) || touched part rest
 
+-- ---- 12 to 15 by what they look at: the cluster that is staged under the action's part number, or none, and the number of staged
+-- clusters
+
+-- there is such a cluster
+abbrev pub isStaged : Option Cluster → Bool
+isStaged none = false
+isStaged (some d) = true
+
 -- "12. ClusterPresent: install of a staged cluster."
-unfoldable pub clusterPresent : Table → Action → Bool
-clusterPresent staged (install c) = present (c .part) staged
+unfoldable pub clusterPresent : Option Cluster → Action → Bool
+clusterPresent staged (install c) = isStaged staged
 clusterPresent staged (update c) = false
 clusterPresent staged (remove part) = false
 
 -- "13. ClusterAbsent: update or remove of one not staged."
-unfoldable pub clusterAbsent : Table → Action → Bool
+unfoldable pub clusterAbsent : Option Cluster → Action → Bool
 clusterAbsent staged (install c) = false
-clusterAbsent staged (update c) = not (present (c .part) staged)
-clusterAbsent staged (remove part) = not (present part staged)
+clusterAbsent staged (update c) = not (isStaged staged)
+clusterAbsent staged (remove part) = not (isStaged staged)
 
 -- "14. OldVersion: update not above the staged version." One that is not staged has 13 before
-unfoldable pub oldVersion : Table → Action → Bool
+unfoldable pub oldVersion : Option Cluster → Action → Bool
 oldVersion staged (install c) = false
-oldVersion staged (update c) = elim (find (c .part) staged) [ none ↦ false | some d ↦ not (above (c .version) (d .version)) ]
+oldVersion staged (update c) = elim staged [ none ↦ false | some d ↦ not (above (c .version) (d .version)) ]
 oldVersion staged (remove part) = false
 
 -- "15. TableFull: install with 64 staged."
-unfoldable pub tableFull : Table → Action → Bool
-tableFull staged (install c) = leb clustersMost (length staged)
-tableFull staged (update c) = false
-tableFull staged (remove part) = false
+unfoldable pub tableFull : ℕ → Action → Bool
+tableFull count (install c) = leb clustersMost count
+tableFull count (update c) = false
+tableFull count (remove part) = false
 
--- 11 to 15 "in this order", of an action on a staged table after the session's listed actions
-unfoldable pub actionRefusals : Table → List Action → Action → List Refusal
-actionRefusals staged listed a =
-    (refuse 11 when touched (actionPart a) listed)
-    ∷ (refuse 12 when clusterPresent staged a)
+-- 12 to 15 "in this order"
+abbrev pub stagedRefusals : Option Cluster → ℕ → Action → List Refusal
+stagedRefusals staged count a =
+    (refuse 12 when clusterPresent staged a)
     ∷ (refuse 13 when clusterAbsent staged a)
     ∷ (refuse 14 when oldVersion staged a)
-    ∷ (refuse 15 when tableFull staged a)
+    ∷ (refuse 15 when tableFull count a)
     ∷ []
 
--- the first of 11 to 15 that applies to an action on a staged table, after the listed actions, or 0
+-- ---- of an action on a staged table, after the session's listed actions
+
+-- 11 to 15 "in this order"
+unfoldable pub actionRefusals : Table → List Action → Action → List Refusal
+actionRefusals staged listed a =
+    (refuse 11 when touched (actionPart a) listed) ∷ stagedRefusals (find (actionPart a) staged) (length staged) a
+
+-- the first of 11 to 15 that applies, or 0
 unfoldable pub actionRefusal : Table → List Action → Action → ℕ
 actionRefusal staged listed a = numberOrZero (firstRefusal (actionRefusals staged listed a))
 

@@ -6,6 +6,7 @@ use mathlib.Core.Bool.{true, false, not, and-false}
 use mathlib.Core.Option.{none}
 use lib.Dec.{eqb}
 use Rattle.base.specs.Refusals.{firstRefusal}
+use Rattle.base.proofs.RefusalNumbers.{not-equal, not-unequal}
 use Rattle.model.specs.State.{Store}
 use Rattle.model.specs.Areas.{processingId}
 use Rattle.model.specs.Calls.{cancel}
@@ -16,7 +17,6 @@ use Rattle.state.specs.declared.state.State.{State}
 use Rattle.state.specs.declared.answer.Answer.the-variants.{Done}
 use Rattle.state.specs.View.{viewPackages, isClearedWork, viewState}
 use Rattle.state.specs.Outcome.{viewOutcome}
-use Rattle.state.proofs.Numbers.{not-equal, not-unequal}
 use Rattle.areas.specs.Changed.{packageAt}
 use Rattle.package_processing.proofs.InProcessing.{accepted-kept, InProcessing}
 use Rattle.package_processing.proofs.GiveWork.{view-with-work}

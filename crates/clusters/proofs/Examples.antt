@@ -12,7 +12,7 @@ use Rattle.clusters.specs.declared.table.Found.{Found}
 use Rattle.clusters.specs.declared.table.Found.the-variants.{At, Nothing}
 use Rattle.clusters.specs.Version.{above, atOrAbove}
 use Rattle.clusters.specs.Cluster.{Cluster, cluster, need, partWithin, needWithin, needsWithin, clusterWithin}
-use Rattle.clusters.specs.Table.{Table, find, present, meets, meetsAll, needsMetOf, needsMet, risingAbove, tableWithin}
+use Rattle.clusters.specs.Table.{Table, find, meets, meetsAll, needsMetOf, needsMet, risingAbove, tableWithin}
 use Rattle.clusters.specs.Place.{placeAmong, placeOf}
 use Rattle.base.proofs.Tables.{_gives_, AllHold}
 
@@ -130,19 +130,19 @@ tableLimits = refl
 abbrev three : Table
 three = plain 10 ∷ cluster 20 lowest (fineNeed ∷ []) ∷ plain 30 ∷ []
 
--- what is found of a part number, whether it is present, and its place
-abbrev lookedUp : ℕ → Option Cluster × Bool × Found
-lookedUp part = (find part three, present part three, placeOf part three)
+-- what is found of a part number, and its place
+abbrev lookedUp : ℕ → Option Cluster × Found
+lookedUp part = (find part three, placeOf part three)
 
 pub found : AllHold lookedUp (
-    10 gives (some (plain 10), true, At 0)
-    ∷ 20 gives (some (cluster 20 lowest (fineNeed ∷ [])), true, At 1)
-    ∷ 30 gives (some (plain 30), true, At 2)
-    ∷ 0 gives (none, false, Nothing)
-    ∷ 15 gives (none, false, Nothing)
-    ∷ 31 gives (none, false, Nothing)
+    10 gives (some (plain 10), At 0)
+    ∷ 20 gives (some (cluster 20 lowest (fineNeed ∷ [])), At 1)
+    ∷ 30 gives (some (plain 30), At 2)
+    ∷ 0 gives (none, Nothing)
+    ∷ 15 gives (none, Nothing)
+    ∷ 31 gives (none, Nothing)
     ∷ [])
-unfolding find present placeAmong
+unfolding find placeAmong
 found = refl
 
 -- ---- needs

@@ -18,10 +18,6 @@ unfoldable pub find : ℕ → Table → Option Cluster
 find part [] = none
 find part (c ∷ t) = cond (eqb part (c .part)) (some c) (find part t)
 
--- a table "holds that cluster"
-unfoldable pub present : ℕ → Table → Bool
-present part t = elim (find part t) [ none ↦ false | some c ↦ true ]
-
 -- "It is met by a table that holds that cluster at the least version or above"
 unfoldable pub meets : Table → Need → Bool
 meets t n = elim (find (n .part) t) [ none ↦ false | some c ↦ atOrAbove (c .version) (n .least) ]

@@ -1,7 +1,7 @@
 // Actions on a table.
 use actions::action::Action;
-use actions::action::action_refusal;
 use actions::action::apply;
+use actions::refusals::action_refusal;
 use cases::case::field;
 use cases::show;
 use cases::values::number_of;

@@ -3,37 +3,33 @@ use Prim.Native.Nat.{ℕ, _+_, _≤_, _<_}
 use mathlib.Core.Path.{_≡_, refl, sym, ap, _∙_}
 use mathlib.Core.Bool.{Bool, true, false}
 use mathlib.Core.List.{List, [], _∷_, _++_, map}
-use mathlib.Core.Option.{none, some}
 use native.Mathlib.Omega.{arith}
 use native.Mathlib.Numerals.{add-one}
-use lib.Dec.{ltb}
+use lib.Dec.{eqb}
 use lib.ListN.{length, take, drop, getD, length-map, length-take, List·getD-map}
 use lib.Seq.{getD-take, take-suc, take-take}
-use borrow.Author.Tests.{ltb-true, ltb-false, le-leb, lt-leb}
-use Rattle.base.specs.Refusals.{noneApplies}
-use Rattle.base.proofs.Tests.{bool-cases}
+use Rattle.base.specs.Refusals.{firstRefusal, numberOrZero}
 use Rattle.base.proofs.Counted.{from-step}
+use Rattle.base.proofs.RefusalNumbers.{zero-passes}
 use Rattle.text.specs.declared.version.Version.{Version}
 use Rattle.clusters.specs.declared.table.Found.{Found}
 use Rattle.clusters.specs.declared.table.Found.the-variants.{At, Nothing}
 use Rattle.clusters.specs.declared.columns.Columns.{Columns}
-use Rattle.clusters.specs.Version.{above}
-use Rattle.clusters.specs.Cluster.{Cluster}
-use Rattle.clusters.specs.Table.{Table, find, clustersMost}
+use Rattle.clusters.specs.Table.{Table, find}
 use Rattle.clusters.specs.View.{noCluster, viewCluster}
 use Rattle.clusters.specs.Place.{placeAmong}
 use Rattle.clusters.specs.Columns.{ColumnsOf}
-use Rattle.clusters.proofs.Finding.{present-none, present-some}
 use Rattle.clusters.proofs.ColumnLaws.{place-below, none-among, found-among}
-use Rattle.actions.specs.declared.action.Change.{Change}
-use Rattle.actions.specs.declared.action.Change.the-variants.{Install, Update, Remove}
+use Rattle.actions.specs.declared.action.Change.the-variants.{Install}
+use Rattle.actions.specs.declared.refusals.Staged.the-variants as staged
 use Rattle.actions.specs.Action.{Action, install, update, remove, actionPart}
-use Rattle.actions.specs.Refusals.{touched, clusterPresent, clusterAbsent, oldVersion}
-use Rattle.actions.specs.View.{actionOf}
+use Rattle.actions.specs.Refusals.{touched, stagedRefusals}
+use Rattle.actions.specs.Staged.{stagedAs}
+use Rattle.actions.proofs.StagedLaws.{part-of}
 use Rattle.actions.proofs.Arrays.{map-take}
 use Rattle.state.specs.declared.session.Entry.{Entry}
 use Rattle.listed_actions.specs.Listed.{isAmong, entryAction, listedActions, entryPart}
-use Rattle.listed_actions.specs.InTurn.{fullWith, passesUntouched, stagedAfter, passInTurnOn, placeOrFirst, passesAbsent, passesPresent, passesAt}
+use Rattle.listed_actions.specs.InTurn.{passesUntouched, stagedAfter, passInTurnOn, placeOrFirst, stagedAt}
 
 -- what the logic reads past the end of an array of entries
 abbrev pub noEntry : Entry
@@ -47,44 +43,22 @@ place-or-first-below part n most l (At i) few room e = omega (arith, place-below
 
 -- ---- 12 to 15 by what is found in the columns
 
-module _ (t : Table) (n : ℕ) (c : Cluster) where
-  absent-passes : (change : Change) → find (c .part) t ≡ none → passesAbsent change n ≡ passesUntouched t n (actionOf change c)
-  unfolding passesUntouched noneApplies clusterPresent clusterAbsent oldVersion fullWith
-  absent-passes Install e =
-      rw (present-none (c .part) t e)
-      (bool-cases (ltb n clustersMost)
-      (λ z. rw (z, lt-leb clustersMost n (ltb-true n clustersMost z)))
-      λ z. rw (z, le-leb clustersMost n (ltb-false n clustersMost z)))
-  absent-passes Update e = rw (present-none (c .part) t e)
-  absent-passes Remove e = rw (present-none (c .part) t e)
+-- the place that is found in the columns of a table says what the table has under the part number
+pub staged-by-place : (columns : Columns) (t : Table) → ColumnsOf columns t → (part : ℕ) (v : Version) (place : Found)
+    → place ≡ placeAmong 0 part (take (columns .count) (columns .parts))
+    → stagedAt place (getD (columns .versions) (placeOrFirst place) v) ≡ stagedAs (find part t)
+staged-by-place columns t of part v Nothing e = sym (ap stagedAs (none-among columns t of part (sym e)))
+staged-by-place columns t of part v (At i) e =
+    let f = found-among columns t of part i v (sym e) in
+    ap staged.At (f .same-version) ∙ sym (ap stagedAs (f .there))
 
-  newer-passes : (d : Cluster) → find (c .part) t ≡ some d → above (c .version) (d .version) ≡ passesUntouched t n (update c)
-  unfolding passesUntouched noneApplies clusterPresent clusterAbsent oldVersion fullWith
-  newer-passes d e =
-      rw (present-some (c .part) t d e, oldVersion, e) (bool-cases (above (c .version) (d .version)) (λ z. rw z) λ z. rw z)
-
-  present-passes : (change : Change) (d : Cluster) → find (c .part) t ≡ some d
-      → passesPresent change (c .version) (d .version) ≡ passesUntouched t n (actionOf change c)
-  unfolding passesUntouched noneApplies clusterPresent clusterAbsent oldVersion fullWith
-  present-passes Install d e = rw (present-some (c .part) t d e)
-  present-passes Update d e = newer-passes d e
-  present-passes Remove d e = rw (present-some (c .part) t d e)
-
--- the place that is found in the columns of the table decides
-pub passes-at : (columns : Columns) (t : Table) → ColumnsOf columns t → (n : ℕ) (change : Change) (c : Cluster) (v : Version) (place : Found)
-    → place ≡ placeAmong 0 (c .part) (take (columns .count) (columns .parts))
-    → passesAt place (getD (columns .versions) (placeOrFirst place) v) n change (c .version) ≡ passesUntouched t n (actionOf change c)
-passes-at columns t of n change c v Nothing e = absent-passes t n c change (none-among columns t of (c .part) (sym e))
-passes-at columns t of n change c v (At i) e =
-    let f = found-among columns t of (c .part) i v (sym e) in
-    ap (passesPresent change (c .version)) (f .same-version) ∙ present-passes t n c change (f .found) (f .there)
+-- the action passes exactly where the number of the first refusal is 0
+pub zero-untouched : (t : Table) (n : ℕ) (a : Action) (part r : ℕ) → part ≡ actionPart a
+    → r ≡ numberOrZero (firstRefusal (stagedRefusals (find part t) n a)) → eqb r 0 ≡ passesUntouched t n a
+unfolding passesUntouched
+zero-untouched t n a part r same told = zero-passes (stagedRefusals (find (actionPart a) t) n a) r refl (rw same at told)
 
 -- ---- the list's columns
-
-pub part-of : (change : Change) (c : Cluster) → actionPart (actionOf change c) ≡ c .part
-part-of Install c = refl
-part-of Update c = refl
-part-of Remove c = refl
 
 pub at-most-one-more : (a : Action) (n : ℕ) → stagedAfter a n ≤ n + 1
 unfolding stagedAfter

@@ -12,16 +12,16 @@ use borrow.Author.Tests.{eqb-true, not-false}
 use Rattle.base.specs.Refusals.{noneApplies}
 use Rattle.base.proofs.Tests.{and-left, and-right, bool-cases, none-some, or-left-false, or-right-false}
 use Rattle.clusters.specs.Cluster.{Cluster}
-use Rattle.clusters.specs.Table.{Table, find, present, risingAbove, tableWithin}
-use Rattle.clusters.proofs.Finding.{present-is}
+use Rattle.clusters.specs.Table.{Table, find, risingAbove, tableWithin}
 use Rattle.clusters.proofs.Equal.{find-low}
 use Rattle.clusters.proofs.Limits.{rising-says, rising-clusters}
 use Rattle.actions.specs.Action.{Action, install, update, remove, takeOut, actionPart, apply, actionWithin, actionsWithin}
-use Rattle.actions.specs.Refusals.{touched, clusterPresent, clusterAbsent, oldVersion, tableFull, actionRefusals, passes, passInTurn}
+use Rattle.actions.specs.Refusals.{touched, clusterAbsent, actionRefusals, passes, passInTurn}
+use Rattle.actions.proofs.StagedLaws.{staged-is}
 use Rattle.actions.proofs.Placing.{take-out-absent}
 use Rattle.actions.proofs.Changes.{passes-says, apply-other, touched-append, touched-one}
 use Rattle.actions.proofs.Limits.{length-insert, length-replace, apply-within}
-use Rattle.listed_actions.specs.InTurn.{fullWith, passesUntouched, stagedAfter, passInTurnOn}
+use Rattle.listed_actions.specs.InTurn.{passesUntouched, stagedAfter, passInTurnOn}
 
 -- ---- how many are staged
 
@@ -35,12 +35,12 @@ one-out part last (d ∷ t) c r e =
     (λ z. rw (z, take-out-absent part t (find-low part (d .part) t (omega (arith, eqb-true part (d .part) z)) (s .rest))) (omega arith))
     λ z. rw z (omega (arith, ih (rw z at e)))
 
-staged-after : (a : Action) (t : Table) → tableWithin t ≡ true → clusterAbsent t a ≡ false → length (apply a t) ≡ stagedAfter a (length t)
+staged-after : (a : Action) (t : Table) → tableWithin t ≡ true → clusterAbsent (find (actionPart a) t) a ≡ false → length (apply a t) ≡ stagedAfter a (length t)
 unfolding apply stagedAfter clusterAbsent
 staged-after (install c) t w h = rw (length-insert c t) (omega arith)
 staged-after (update c) t w h = length-replace c t
 staged-after (remove part) t w h =
-    let p = present-is part t (not-false _ h) in
+    let p = staged-is (find part t) (not-false _ h) in
     omega (arith, one-out part 0 t (p .0) (rising-clusters t w) (p .1))
 
 -- ---- what is staged, seen from the beginning table
@@ -51,26 +51,11 @@ record Staged (beginning staged : Table) (n : ℕ) (listed : List Action) : Type
   within : tableWithin staged ≡ true
 
 module _ (b t : Table) (n : ℕ) (listed : List Action) where
-  present-same : (part : ℕ) → find part t ≡ find part b → present part t ≡ present part b
-  unfolding present
-  present-same part e = rw (present, present, e)
-
-  old-same : (c : Cluster) → find (c .part) t ≡ find (c .part) b → oldVersion t (update c) ≡ oldVersion b (update c)
-  unfolding oldVersion
-  old-same c e = rw (oldVersion, oldVersion, e)
-
-  update-untouched : (c : Cluster) → find (c .part) t ≡ find (c .part) b → touched (c .part) listed ≡ false
-      → passes t listed (update c) ≡ passesUntouched b n (update c)
-  unfolding passes actionRefusals noneApplies passesUntouched clusterPresent clusterAbsent tableFull fullWith
-  update-untouched c e u = rw (u, present-same (c .part) e, old-same c e)
-
   -- 12 to 15 of an untouched cluster
   passes-untouched : (a : Action) → find (actionPart a) t ≡ find (actionPart a) b → length t ≡ n → touched (actionPart a) listed ≡ false
       → passes t listed a ≡ passesUntouched b n a
-  unfolding passes actionRefusals noneApplies passesUntouched clusterPresent clusterAbsent oldVersion tableFull fullWith
-  passes-untouched (install c) e l u = rw (u, present-same (c .part) e, l)
-  passes-untouched (update c) e l u = update-untouched c e u
-  passes-untouched (remove part) e l u = rw (u, present-same part e)
+  unfolding passes actionRefusals noneApplies passesUntouched
+  passes-untouched a e l u = rw (u, e, l)
 
   passes-touched : (a : Action) → touched (actionPart a) listed ≡ true → passes t listed a ≡ false
   unfolding passes actionRefusals noneApplies

@@ -1,37 +1,23 @@
 -- "pass 11 to 15 in turn", decided on the beginning table and the number of staged clusters: each cluster is touched once, so what is
 -- staged of an untouched one is what the beginning table has. proofs/Untouched.antt shows that it is `passInTurn`.
 use Prim.Native.Nat.{ℕ, _+_, _-_}
-use mathlib.Core.Bool.{Bool, true, false, not, _&&_}
+use mathlib.Core.Bool.{Bool, true, not, _&&_}
 use mathlib.Core.List.{List, [], _∷_, _++_}
-use lib.Dec.{leb, ltb}
-use Rattle.base.specs.Refusals.{refuse_when_, noneApplies}
+use Rattle.base.specs.Refusals.{noneApplies}
 use Rattle.text.specs.declared.version.Version.{Version}
 use Rattle.clusters.specs.declared.table.Found.{Found}
 use Rattle.clusters.specs.declared.table.Found.the-variants.{At, Nothing}
-use Rattle.clusters.specs.Version.{above}
-use Rattle.clusters.specs.Table.{Table, clustersMost}
-use Rattle.actions.specs.declared.action.Change.{Change}
-use Rattle.actions.specs.declared.action.Change.the-variants.{Install, Update, Remove}
+use Rattle.clusters.specs.Table.{Table, find}
+use Rattle.actions.specs.declared.refusals.Staged.{Staged}
+use Rattle.actions.specs.declared.refusals.Staged.the-variants as staged
 use Rattle.actions.specs.Action.{Action, install, update, remove, actionPart}
-use Rattle.actions.specs.Refusals.{touched, clusterPresent, clusterAbsent, oldVersion}
+use Rattle.actions.specs.Refusals.{touched, stagedRefusals}
 
 -- ---- on the beginning table
 
--- "15. TableFull: install with 64 staged."
-unfoldable pub fullWith : ℕ → Action → Bool
-fullWith staged (install c) = leb clustersMost staged
-fullWith staged (update c) = false
-fullWith staged (remove part) = false
-
--- 12 to 15 of an action on a cluster that no listed action touches
+-- 12 to 15 of an action on a cluster that no listed action touches, with so many clusters staged
 unfoldable pub passesUntouched : Table → ℕ → Action → Bool
-passesUntouched beginning staged a =
-    noneApplies
-    ((refuse 12 when clusterPresent beginning a)
-    ∷ (refuse 13 when clusterAbsent beginning a)
-    ∷ (refuse 14 when oldVersion beginning a)
-    ∷ (refuse 15 when fullWith staged a)
-    ∷ [])
+passesUntouched beginning staged a = noneApplies (stagedRefusals (find (actionPart a) beginning) staged a)
 
 -- how many clusters are staged after an action that passes: "install adds the cluster .., update replaces both, remove takes the
 -- cluster out"
@@ -54,19 +40,7 @@ abbrev pub placeOrFirst : Found → ℕ
 placeOrFirst (At i) = i
 placeOrFirst Nothing = 0
 
--- 12 to 15 of a change to a cluster that is not there: only an install passes, where there is room for it
-abbrev pub passesAbsent : Change → ℕ → Bool
-passesAbsent Install staged = ltb staged clustersMost
-passesAbsent Update staged = false
-passesAbsent Remove staged = false
-
--- 12 to 15 of a change to a cluster that is there: a remove passes, and an update to a version above the old one
-abbrev pub passesPresent : Change → Version → Version → Bool
-passesPresent Install version old = false
-passesPresent Update version old = above version old
-passesPresent Remove version old = true
-
--- 12 to 15 of a change to the cluster with that place
-abbrev pub passesAt : Found → Version → ℕ → Change → Version → Bool
-passesAt (At i) old staged change version = passesPresent change version old
-passesAt Nothing old staged change version = passesAbsent change staged
+-- what is staged of the cluster with that place, where its version stands
+abbrev pub stagedAt : Found → Version → Staged
+stagedAt (At i) version = staged.At version
+stagedAt Nothing version = staged.Nothing

@@ -2,11 +2,11 @@
 use crate::columns::entry_columns;
 use crate::columns::is_among;
 use actions::action::Change;
+use actions::refusals::Staged;
+use actions::refusals::staged_refusal;
 use clusters::columns::Columns;
 use clusters::columns::place_of;
-use clusters::table::CLUSTERS_MOST;
 use clusters::table::Found;
-use clusters::version::above;
 use state::limits::ENTRIES_MOST;
 use state::session::Entry;
 use text::version::Version;
@@ -22,7 +22,7 @@ ghost use Rattle.actions.specs.Refusals.{passInTurn};
 ghost use Rattle.actions.specs.View.{actionOf};
 ghost use Rattle.state.specs.View.{entriesMost};
 ghost use Rattle.listed_actions.specs.Listed.{listedActions};
-ghost use Rattle.listed_actions.specs.InTurn.{placeOrFirst, passesAbsent, passesPresent, passesAt, stagedAfter};
+ghost use Rattle.listed_actions.specs.InTurn.{placeOrFirst, stagedAt, stagedAfter};
 
 // A place to read a version from, where the cluster is there or not.
 fn place_or_first(place: Found) -> usize
@@ -34,35 +34,14 @@ fn place_or_first(place: Found) -> usize
     }
 }
 
-// 12 to 15 of a change to a cluster that is not there, with a number of clusters staged.
-fn passes_absent(change: Change, staged: usize) -> bool
-    ensures { λ r. ⌜ r ≡ passesAbsent change staged ⌝ }
-{
-    match change {
-        Change::Install => staged < CLUSTERS_MOST,
-        Change::Update => false,
-        Change::Remove => false,
-    }
-}
-
-// 12 to 15 of a change to a cluster that is there with the old version.
-fn passes_present(change: Change, version: Version, old: Version) -> bool
-    ensures { λ r. ⌜ r ≡ passesPresent change version old ⌝ }
-{
-    match change {
-        Change::Install => false,
-        Change::Update => above(version, old),
-        Change::Remove => true,
-    }
-}
-
-// 12 to 15 of a change to a cluster by its place in the beginning table, which no listed action touches.
-fn passes_at(place: Found, old: Version, staged: usize, change: Change, version: Version) -> bool
-    ensures { λ r. ⌜ r ≡ passesAt place old staged change version ⌝ }
+// What is staged of a cluster by its place in the beginning table, where no listed action touches it. The version is the one that stands
+// there.
+fn staged_at(place: Found, version: Version) -> Staged
+    ensures { λ r. ⌜ r ≡ stagedAt place version ⌝ }
 {
     match place {
-        Found::At(_) => passes_present(change, version, old),
-        Found::Nothing => passes_absent(change, staged),
+        Found::At(_) => Staged::At(version),
+        Found::Nothing => Staged::Nothing,
     }
 }
 
@@ -101,7 +80,7 @@ pub fn pass_in_turn(columns: Columns, entries: [Entry; ENTRIES_MOST], count: usi
         let old = columns.versions[at];
         let change = action.change;
         let version = cluster.version;
-        if !passes_at(place, old, staged, change, version) {
+        if staged_refusal(staged_at(place, old), staged, change, version) != 0 {
             return false;
         }
         staged = staged_after(change, staged);

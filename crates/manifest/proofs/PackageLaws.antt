@@ -27,7 +27,7 @@ use Rattle.clusters.specs.Cluster.{Cluster, cluster, withNeed, needsMost}
 use Rattle.clusters.specs.View.{noVersion}
 use Rattle.actions.specs.View.{actionOf}
 use Rattle.clusters.specs.Struct.{structCluster}
-use Rattle.actions.specs.Struct.{structAction}
+use Rattle.actions.specs.Struct.{clearedAction, structAction}
 use Rattle.clusters.specs.Exact as exact
 use Rattle.clusters.proofs.Structs.{struct-with-need}
 use Rattle.cluster_list.specs.Read.{andThenSome}
@@ -51,11 +51,9 @@ use Rattle.manifest.specs.Answer.{cleared, packageRead}
 abbrev bare : ℕ → Cluster
 bare part = cluster part noVersion []
 
-pub cleared-is : (answer : PackageAnswer) (x : ClusterStruct) → x ≡ structCluster (bare 0)
-    → _≡_ {A = PackageReadStruct} (record { answer = answer; action = record { change = Install; cluster = x }; start = 0; count = 0; sum = 0 }) (cleared answer)
-unfolding structCluster
-cleared-is answer x e =
-    ap {B = PackageReadStruct} (λ (k : ClusterStruct). record { answer = answer; action = record { change = Install; cluster = k }; start = 0; count = 0; sum = 0 }) e
+pub cleared-is : (answer : PackageAnswer) (x : ActionStruct) → x ≡ clearedAction
+    → _≡_ {A = PackageReadStruct} (record { answer = answer; action = x; start = 0; count = 0; sum = 0 }) (cleared answer)
+cleared-is answer x e = ap {B = PackageReadStruct} (λ (a : ActionStruct). record { answer = answer; action = a; start = 0; count = 0; sum = 0 }) e
 
 abbrev action : Change → ClusterStruct → ActionStruct
 action change cluster = record { change = change; cluster = cluster }

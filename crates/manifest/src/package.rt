@@ -17,6 +17,7 @@ use crate::lines::is_empty_line;
 use crate::lines::only_need;
 use actions::action::Action;
 use actions::action::Change;
+use actions::action::cleared_action;
 use cluster_list::cells::cluster_with;
 use clusters::cluster::Cluster;
 use clusters::cluster::new_cluster;
@@ -68,10 +69,7 @@ fn bare_cluster(part: u32) -> Cluster
 fn no_package(answer: PackageAnswer) -> PackageRead
     ensures { λ r. ⌜ r ≡ cleared answer ⌝ }
 {
-    let action = Action {
-        change: Change::Install,
-        cluster: bare_cluster(0),
-    };
+    let action = cleared_action();
     PackageRead {
         answer: answer,
         action: action,

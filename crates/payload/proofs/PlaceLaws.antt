@@ -7,6 +7,7 @@ use mathlib.Core.Option.{Option, none, some}
 use native.Mathlib.Omega.{arith}
 use lib.ListN.{length, take, length-take}
 use Rattle.base.specs.Refusals.{firstRefusal, numberOrZero}
+use Rattle.base.proofs.RefusalNumbers.{zero-none}
 use Rattle.manifest.specs.declared.package.PackageAnswer.the-variants as answer
 use Rattle.manifest.specs.declared.package.PackageRead.{PackageRead as PackageReadStruct}
 use Rattle.manifest.specs.Package.{PackageRead, illFormed, inconsistent, consistent, readPackage}
@@ -19,7 +20,6 @@ use Rattle.model.specs.Areas.{find, areaStart, areaOf, isTransferring}
 use Rattle.model.specs.Step.{unknown, manifestOf}
 use Rattle.model.specs.Reading.{furtherPayloadRefusals}
 use Rattle.model.proofs.soundness.Packages.{found-known, found-is}
-use Rattle.state.proofs.Numbers.{zero-none}
 use Rattle.payload.specs.declared.place.PayloadPlace.{PayloadPlace}
 use Rattle.payload.specs.Place.{noPlace, placeUnless, placeOnSound}
 

@@ -7,6 +7,7 @@ use mathlib.Core.Option.{Option, none, some}
 use native.Mathlib.Omega.{arith}
 use lib.ListN.{length, take, drop, length-take}
 use Rattle.base.specs.Refusals.{firstRefusal, numberOrZero}
+use Rattle.base.proofs.RefusalNumbers.{zero-none}
 use Rattle.actions.specs.Refusals.{actionRefusals, actionRefusal}
 use Rattle.actions.specs.View.{viewAction}
 use Rattle.manifest.specs.declared.package.PackageRead.{PackageRead as PackageReadStruct}
@@ -19,9 +20,8 @@ use Rattle.model.specs.Tables.{staged}
 use Rattle.model.specs.Sound.{storeMost}
 use Rattle.model.specs.Step.{manifestOf, processRefusals}
 use Rattle.state.specs.declared.work.Work.{Work}
-use Rattle.state.proofs.Numbers.{zero-none}
 use Rattle.process_package.specs.declared.checks.Checked.{Checked}
-use Rattle.process_package.specs.Process.{workBegun, refusedCheck, checkedBy, checked}
+use Rattle.process_package.specs.Process.{workOfPackage, refusedCheck, checkedBy, checked}
 
 -- ---- what was read
 
@@ -115,7 +115,7 @@ module _ (packageState : PackageState) (session : Session) (bytes : List ℕ) (r
           let first = firstRefusal (processRefusals packageState (readPackage bytes) session) in
           stopped (readPackage bytes) first k r number applies f
 
-      pub passed : (work : Work) → k ≡ 0 → work ≡ workBegun o → r ≡ record { number = 0; work = work }
+      pub passed : (work : Work) → k ≡ 0 → work ≡ workOfPackage o → r ≡ record { number = 0; work = work }
           → r ≡ checked packageState (readPackage bytes) session
       unfolding actionRefusals
       passed work none-applies f g =

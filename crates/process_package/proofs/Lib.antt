@@ -1,3 +1,3 @@
-pub mod StagedRefusal
+pub mod SessionRefusal
 pub mod CheckLaws
 pub mod ProcessLaws

@@ -7,6 +7,7 @@ use mathlib.Core.Option.{Option, none, some}
 use lib.ListN.{length, take, drop}
 use Rattle.base.specs.Refusals.{Refusal, firstRefusal, numberOrZero}
 use Rattle.base.proofs.Tests.{bool-cases, clash}
+use Rattle.base.proofs.RefusalNumbers.{zero-none}
 use Rattle.actions.specs.Refusals.{actionRefusals}
 use Rattle.actions.specs.Action.{Action}
 use Rattle.manifest.specs.Package.{Manifest, PackageRead, consistent, readPackage}
@@ -35,22 +36,21 @@ use Rattle.state.specs.declared.answer.Answered.{Answered}
 use Rattle.state.specs.View.{viewPackageState, viewPackages, viewSession, isClearedWork, viewWork, viewState}
 use Rattle.state.specs.Exact.{inState, withPackage, state}
 use Rattle.state.specs.Outcome.{outcome, answered, viewOutcome}
-use Rattle.state.proofs.Numbers.{zero-none}
 use Rattle.soundness.proofs.KeptParts.{cleared-not-within}
 use Rattle.areas.specs.Changed.{packageAt, withChanged}
 use Rattle.areas.proofs.FoundPackage.{count-fits, FoundAt}
 use Rattle.areas.proofs.ChangedPackage.{view-changed}
 use Rattle.process_package.specs.declared.checks.Checked.{Checked}
-use Rattle.process_package.specs.Process.{workBegun, checkedBy, checked, processingBegun}
+use Rattle.process_package.specs.Process.{workOfPackage, checkedBy, checked, processingBegun}
 
 -- ---- what is kept
 
 -- the part number of an action that was read is at least 1, so the values are not the cleared ones
 view-work-begun : (bytes : List ℕ) (m : Manifest) → readPackage bytes ≡ consistent m
-    → viewWork (workBegun (packageRead (consistent m))) ≡ some (step.workAtStart m)
+    → viewWork (workOfPackage (packageRead (consistent m))) ≡ some (step.workAtStart m)
 unfolding packageRead
 view-work-begun bytes m e =
-    let w = workBegun (packageRead (consistent m)) in
+    let w = workOfPackage (packageRead (consistent m)) in
     let same = readPackage-viewed bytes m e in
     bool-cases (isClearedWork w)
     (λ h. clash (rw same (readPackage-within bytes m e .0)) (cleared-not-within w h))
@@ -94,7 +94,7 @@ module _ (s : State) (store : Store) (id : ℕ) where
       pub checks-pass : firstRefusal (ownRefusals (viewState s) store (process id)) ≡ none
       checks-pass = process-own ∙ none-applies
 
-      kept : c .work ≡ workBegun (packageRead (areaRead (viewState s) store id))
+      kept : c .work ≡ workOfPackage (packageRead (areaRead (viewState s) store id))
       kept =
           let ps = viewPackages (s .transfers) in
           ap (λ (x : Checked). x .work) e
@@ -124,7 +124,7 @@ module _ (s : State) (store : Store) (id : ℕ) where
       let read = read-consistent h in
       let m = manifestOf (areaRead (viewState s) store id) in
       let transfers = view-changed (s .transfers) few long id (inState packageState.Processing) (areas.inState model.beingProcessed) (λ p. refl) in
-      let work = ap (λ (p : PackageRead). viewWork (workBegun (packageRead p))) read ∙ view-work-begun (areaOf id (viewPackages (s .transfers)) store) m read in
+      let work = ap (λ (p : PackageRead). viewWork (workOfPackage (packageRead p))) read ∙ view-work-begun (areaOf id (viewPackages (s .transfers)) store) m read in
       ap₂ (λ (t : model.Transfers) (w : Option model.Work). step.outcome done (model.state model.processing t (viewSession (s .session)) w) store) transfers work
 
 -- ---- what an accepted call gives, by its parts

@@ -21,8 +21,8 @@ use Rattle.areas.specs.Changed.{withChanged}
 use Rattle.process_package.specs.declared.checks.Checked.{Checked}
 
 -- "The state keeps the action, the payload's start within its area, count and sum, with the running sums and the bytes done at 0"
-abbrev pub workBegun : PackageReadStruct → Work
-workBegun read =
+abbrev pub workOfPackage : PackageReadStruct → Work
+workOfPackage read =
     record {
       action = read .action;
       start = read .start;
@@ -40,7 +40,7 @@ refusedCheck number = record { number = number; work = clearedWork }
 -- what the checks give: a refusal by its number, or 0 beside the values that are kept
 abbrev pub checkedBy : PackageRead → Option ℕ → Checked
 checkedBy read (some number) = refusedCheck number
-checkedBy read none = record { number = 0; work = workBegun (packageRead read) }
+checkedBy read none = record { number = 0; work = workOfPackage (packageRead read) }
 
 -- by the first of the refusals behind 4
 abbrev pub checked : PackageState → PackageRead → Session → Checked
@@ -56,5 +56,5 @@ processingBegun s store id =
     phase.Processing
     (withChanged id (inState packageState.Processing) (s .transfers))
     (s .session)
-    (workBegun (packageRead (areaRead (viewState s) store id)))))
+    (workOfPackage (packageRead (areaRead (viewState s) store id)))))
     store

@@ -1,6 +1,6 @@
 // The checks of a package that is to be processed, and the values that the state then keeps of it.
 use actions::action::Action;
-use actions::action::action_refusal;
+use actions::refusals::action_refusal;
 use areas::reading::answer_refusal;
 use areas::sizes::area_start;
 use listed_actions::columns::entry_columns;
@@ -31,7 +31,7 @@ ghost use Rattle.model.specs.Sound.{sessionSound};
 ghost use Rattle.state.specs.View.{viewPackageState, viewPackages, entriesMost, viewEntries, viewSession};
 ghost use Rattle.listed_actions.specs.Listed.{listedActions};
 ghost use Rattle.areas.specs.Inside.{AreaInside};
-ghost use Rattle.process_package.specs.Process.{workBegun, refusedCheck, checked};
+ghost use Rattle.process_package.specs.Process.{workOfPackage, refusedCheck, checked};
 
 // The number of the first refusal behind 4 that applies, or 0, and the values that are kept, which are cleared when refused.
 pub struct Checked {
@@ -49,7 +49,7 @@ fn is_touched(entries: [Entry; ENTRIES_MOST], count: usize, part: u32) -> bool
 }
 
 // The number of the first of the refusals 11 to 15 of an action behind the session's list, or 0. A sound state meets what is required.
-fn staged_refusal(session: Session, action: Action) -> u32
+fn session_refusal(session: Session, action: Action) -> u32
     requires { ⌜ (session .count ≤ entriesMost) × (sessionSound (viewSession session) ≡ true) ⌝ }
     ensures { λ r. ⌜ r ≡ actionRefusal (staged (viewSession session)) (actions (viewEntries session)) (viewAction action) ⌝ }
 {
@@ -61,9 +61,9 @@ fn staged_refusal(session: Session, action: Action) -> u32
 }
 
 // The values that are kept of a package that was read. A store within its limit meets what is required.
-fn begun_work(read: PackageRead) -> Work
+fn work_of_package(read: PackageRead) -> Work
     requires { ⌜ (read .start < 4294967296) × (read .count < 4294967296) ⌝ }
-    ensures { λ r. ⌜ r ≡ workBegun read ⌝ }
+    ensures { λ r. ⌜ r ≡ workOfPackage read ⌝ }
 {
     let action = read.action;
     let sums = checksum::start();
@@ -107,11 +107,11 @@ pub fn check_package(t: Transfers, i: usize, p: Package, store: &[u8], session: 
         return refused_check(number);
     }
     let action = read.action;
-    let refusal = staged_refusal(session, action);
+    let refusal = session_refusal(session, action);
     if refusal != 0 {
         return refused_check(refusal);
     }
-    let work = begun_work(read);
+    let work = work_of_package(read);
     Checked {
         number: 0,
         work: work,

@@ -1,5 +1,5 @@
 // Process: a package that is Transferred is Processing, and the state keeps what its text says.
-pub mod checks;
+mod checks;
 
 use crate::checks::check_package;
 use areas::lookup::find;

@@ -3,5 +3,4 @@ pub mod CountedArrays
 pub mod Views
 pub mod PackagesAlong
 pub mod Outcomes
-pub mod Numbers
 pub mod Ways

@@ -8,6 +8,7 @@ use mathlib.Core.Option.{Option, none, some}
 use lib.Dec.{eqb}
 use Rattle.base.specs.Refusals.{Refusal, refuse_when_, firstRefusal, numberOrZero}
 use Rattle.base.proofs.Ladder.{told-no, told-yes}
+use Rattle.base.proofs.RefusalNumbers.{told-number, told-none}
 use Rattle.model.specs.State.{isProcessing, Store}
 use Rattle.model.specs.Calls.{Call, callNumber}
 use Rattle.model.specs.Permissions.{allowed}
@@ -23,7 +24,6 @@ use Rattle.state.specs.View.{viewPhase, viewState}
 use Rattle.state.specs.Permissions.{allowedNumber}
 use Rattle.state.specs.Exact.{withPackage, withTransfers}
 use Rattle.state.specs.Outcome.{Outcome, outcome, answered, refusedBy, viewOutcome, SoundIfAccepted, settled, called, calledOnSound}
-use Rattle.state.proofs.Numbers.{told-number, told-none}
 use Rattle.state.proofs.Permitted.{by-number}
 use Rattle.state.proofs.Outcomes.{view-called, called-unsound, called-sound, step-gives-sound}
 

@@ -1,7 +1,7 @@
 // The table when the session began, and the session's list in processing order.
 use crate::limits::ENTRIES_MOST;
-use crate::work::cleared_action;
 use actions::action::Action;
+use actions::action::cleared_action;
 use clusters::table::Table;
 ghost use mathlib.Core.Path.{_≡_};
 ghost use Prim.Native.Nat.{_+_, _<_};

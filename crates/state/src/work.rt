@@ -1,11 +1,10 @@
 // What the state keeps of the package that is processing: all of it is cleared outside Processing.
 use actions::action::Action;
 use actions::action::Change;
+use actions::action::cleared_action;
 use checksum::Sums;
-use clusters::cluster::new_cluster;
 use text::version::Version;
 ghost use mathlib.Core.Path.{_≡_};
-ghost use Rattle.actions.specs.Struct.{clearedAction};
 ghost use Rattle.state.specs.View.{isInstall, isNoVersion, isClearedWork};
 ghost use Rattle.state.specs.Exact.{clearedWork};
 
@@ -17,23 +16,6 @@ pub struct Work {
     pub running_sums: Sums,
     pub done: u32,
     pub cancel_noted: bool,
-}
-
-// An action with every number 0 and no needs.
-pub fn cleared_action() -> Action
-    ensures { λ r. ⌜ r ≡ clearedAction ⌝ }
-{
-    let no_version = Version {
-        first: 0,
-        second: 0,
-        third: 0,
-        fourth: 0,
-    };
-    let cluster = new_cluster(0, no_version);
-    Action {
-        change: Change::Install,
-        cluster: cluster,
-    }
 }
 
 // The kept values and the cancel note cleared.

@@ -11,6 +11,7 @@ use lib.ListN.{length, take}
 use borrow.Author.Tests.{lt-ltb, le-ltb, ltb-true, ltb-false}
 use Rattle.base.specs.Refusals.{firstRefusal, numberOrZero}
 use Rattle.base.proofs.Tests.{or-left-false, or-right-false, bool-cases}
+use Rattle.base.proofs.RefusalNumbers.{zero-none}
 use Rattle.model.specs.State.{Store}
 use Rattle.model.specs.Areas.{declared, overwritten, blockPut}
 use Rattle.model.specs.Areas as areas
@@ -26,7 +27,6 @@ use Rattle.state.specs.View.{viewPackage, viewPackages, viewState}
 use Rattle.state.specs.Exact.{withBlock}
 use Rattle.state.specs.Outcome.{Outcome, viewOutcome}
 use Rattle.state.proofs.Outcomes.{view-packages}
-use Rattle.state.proofs.Numbers.{zero-none}
 use Rattle.areas.specs.Changed.{packageAt, withChanged}
 use Rattle.areas.proofs.FoundPackage.{count-fits, FoundAt}
 use Rattle.areas.proofs.ChangedPackage.{view-changed, given-at}

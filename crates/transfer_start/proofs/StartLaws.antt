@@ -8,6 +8,7 @@ use native.Mathlib.Omega.{arith}
 use lib.ListN.{length}
 use borrow.Author.Tests.{leb-false, ltb-false}
 use Rattle.base.specs.Refusals.{firstRefusal, numberOrZero}
+use Rattle.base.proofs.RefusalNumbers.{zero-none}
 use Rattle.model.specs.State.{Store}
 use Rattle.model.specs.Areas.{declared, free}
 use Rattle.model.specs.Sound.{packagesMost, idMost, sound}
@@ -18,7 +19,6 @@ use Rattle.state.specs.declared.state.State.{State}
 use Rattle.state.specs.View.{viewPackages, viewState}
 use Rattle.state.specs.Outcome.{viewOutcome}
 use Rattle.state.proofs.Views.{view-with-new-package}
-use Rattle.state.proofs.Numbers.{zero-none}
 use Rattle.state.proofs.PackagesAlong.{packages-length}
 use Rattle.areas.proofs.FoundPackage.{count-fits}
 use Rattle.transfer_start.specs.Start.{started}

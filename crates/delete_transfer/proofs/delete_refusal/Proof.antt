@@ -1,6 +1,6 @@
 -- `delete_transfer::delete_refusal` meets its contract: the same tests in the same order. Assumes nothing.
 use borrow.Author.Needs.{needs}
-use Rattle.state.proofs.Numbers.{numbers}
+use Rattle.base.proofs.RefusalNumbers.{numbers}
 use Rattle.delete_transfer.proofs.delete_refusal.Statement.{statement}
 use Rattle.delete_transfer.proofs.delete_refusal.Tie as tie
 

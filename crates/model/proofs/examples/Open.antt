@@ -11,7 +11,7 @@ use Rattle.rows.specs.Line.{lineFrom, lineText}
 use Rattle.rows.specs.Columns.{columnFrom, clusterColumns, packageColumns}
 use Rattle.clusters.specs.Version.{above, atOrAbove}
 use Rattle.clusters.specs.Cluster.{partWithin, needWithin, needsWithin, clusterWithin}
-use Rattle.clusters.specs.Table.{find as findCluster, present, meets, meetsAll, needsMetOf, needsMet, risingAbove, tableWithin}
+use Rattle.clusters.specs.Table.{find as findCluster, meets, meetsAll, needsMetOf, needsMet, risingAbove, tableWithin}
 use Rattle.actions.specs.Action.{insert, replace, takeOut, apply, applyAll, actionWithin, actionsWithin}
 use Rattle.actions.specs.Refusals.{touched, clusterPresent, clusterAbsent, oldVersion, tableFull, actionRefusals, passes, passInTurn}
 use Rattle.cluster_list.specs.Cells.{partField, needOf}
@@ -30,5 +30,5 @@ use Rattle.model.specs.Journal.{opened, actionIn, blockJoined, returned,
 use Rattle.model.specs.Reading.{furtherReportRefusals, reportRefusals, reportReply, reportBuffer, reportOf, packagesReport, clusterInfoReport, changeInfoReport, packageRecords, clusterInfo, changeLines, changeInfo, furtherPayloadRefusals, payloadRefusals, payloadPart, payloadReply, payload, payloadCheck, progressOf, progressRefusals, progress}
 
 unfoldable pub computing : Unit {0}
-unfolding firstRefusal noneApplies sumStep continued sumNumber sumOf sumsWithin digitOf numberGoesOn numberBegins wholeNumber versionWithin dottedAt versionAt wholeVersion versionText sameBytes digitsIn digits endsField field behindField cell lineFrom lineText columnFrom clusterColumns packageColumns above atOrAbove partWithin needWithin needsWithin clusterWithin findCluster present insert replace takeOut meets meetsAll needsMetOf needsMet risingAbove tableWithin apply applyAll touched clusterPresent clusterAbsent oldVersion tableFull actionRefusals passes passInTurn actionWithin actionsWithin partField needOf lastPart clusterAdded needAdded needLine clusterBegun clusterLine valueLine valueLines readList needLineText needLinesText clusterLines clustersText writeList changeOf removeHeading clusterHeading firstLine onlyNeed furtherLines packageWith readPackage allowed declared free find packageOf areaStart areaOf overwritten blockPut remaining remainingAreas deleted changed countIn processingId staged runningIn running storeSound receivedSound packageSound packagesRise transfersSound isListed processedAsListed listSound sessionSound workSound keptSound processingSound listFits soundFor ownRefusals furtherRefusals refusals sumCompared worked cleanedUp reportOutcome act step isBadLoad load run acceptedOnly opened actionIn blockJoined returned packageProcessed packageLeft reportDone workNoted reportNoted acceptedNoted noted journal furtherReportRefusals reportRefusals reportReply reportBuffer reportOf packagesReport clusterInfoReport changeInfoReport packageRecords clusterInfo changeLines changeInfo furtherPayloadRefusals payloadRefusals payloadPart payloadReply payload payloadCheck progressOf progressRefusals progress
+unfolding firstRefusal noneApplies sumStep continued sumNumber sumOf sumsWithin digitOf numberGoesOn numberBegins wholeNumber versionWithin dottedAt versionAt wholeVersion versionText sameBytes digitsIn digits endsField field behindField cell lineFrom lineText columnFrom clusterColumns packageColumns above atOrAbove partWithin needWithin needsWithin clusterWithin findCluster insert replace takeOut meets meetsAll needsMetOf needsMet risingAbove tableWithin apply applyAll touched clusterPresent clusterAbsent oldVersion tableFull actionRefusals passes passInTurn actionWithin actionsWithin partField needOf lastPart clusterAdded needAdded needLine clusterBegun clusterLine valueLine valueLines readList needLineText needLinesText clusterLines clustersText writeList changeOf removeHeading clusterHeading firstLine onlyNeed furtherLines packageWith readPackage allowed declared free find packageOf areaStart areaOf overwritten blockPut remaining remainingAreas deleted changed countIn processingId staged runningIn running storeSound receivedSound packageSound packagesRise transfersSound isListed processedAsListed listSound sessionSound workSound keptSound processingSound listFits soundFor ownRefusals furtherRefusals refusals sumCompared worked cleanedUp reportOutcome act step isBadLoad load run acceptedOnly opened actionIn blockJoined returned packageProcessed packageLeft reportDone workNoted reportNoted acceptedNoted noted journal furtherReportRefusals reportRefusals reportReply reportBuffer reportOf packagesReport clusterInfoReport changeInfoReport packageRecords clusterInfo changeLines changeInfo furtherPayloadRefusals payloadRefusals payloadPart payloadReply payload payloadCheck progressOf progressRefusals progress
 computing = tt

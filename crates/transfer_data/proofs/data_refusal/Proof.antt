@@ -1,6 +1,6 @@
 -- `transfer_data::data_refusal` meets its contract: the same tests in the same order. Assumes nothing.
 use borrow.Author.Needs.{needs}
-use Rattle.state.proofs.Numbers.{numbers}
+use Rattle.base.proofs.RefusalNumbers.{numbers}
 use Rattle.transfer_data.proofs.DataLaws.{incorrect-size}
 use Rattle.transfer_data.proofs.data_refusal.Statement.{statement}
 use Rattle.transfer_data.proofs.data_refusal.Tie as tie

@@ -1,6 +1,6 @@
 -- `transfer_exit::exit_refusal` meets its contract: the same tests in the same order, the text read last. Assumes nothing.
 use borrow.Author.Needs.{needs}
-use Rattle.state.proofs.Numbers.{numbers}
+use Rattle.base.proofs.RefusalNumbers.{numbers}
 use Rattle.transfer_exit.proofs.ExitLaws.{exit-read}
 use Rattle.transfer_exit.proofs.exit_refusal.Statement.{statement}
 use Rattle.transfer_exit.proofs.exit_refusal.Tie as tie

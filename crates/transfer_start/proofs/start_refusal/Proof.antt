@@ -1,5 +1,5 @@
 -- `transfer_start::start_refusal` meets its contract: the same tests in the same order. Assumes nothing.
-use Rattle.state.proofs.Numbers.{numbers}
+use Rattle.base.proofs.RefusalNumbers.{numbers}
 use Rattle.transfer_start.proofs.start_refusal.Statement.{statement}
 use Rattle.transfer_start.proofs.start_refusal.Tie as tie
 

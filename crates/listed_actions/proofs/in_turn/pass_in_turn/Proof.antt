@@ -3,23 +3,26 @@
 -- list. Assumes nothing.
 use borrow.Author.Needs.{needs}
 use native.Mathlib.Omega.{arith}
-use mathlib.Core.Path.{_≡_, sym, ap, _∙_}
+use mathlib.Core.Path.{_≡_, refl, sym, ap, _∙_}
 use mathlib.Core.Bool.{true}
 use mathlib.Core.List.{List, []}
 use Prim.Native.Nat.{ℕ, _+_, _-_, _≤_, _<_}
+use lib.Dec.{eqb}
 use lib.ListN.{length, take, drop, getD}
+use borrow.Author.Tests.{eq-eqb, ne-eqb}
 use Rattle.base.proofs.Counted.{unmapped, from-end}
-use Rattle.base.proofs.Ladder.{told-no, told-yes}
-use Rattle.clusters.specs.Table.{Table, tableWithin, clustersMost}
+use Rattle.clusters.specs.Table.{Table, find, tableWithin, clustersMost}
 use Rattle.clusters.specs.View.{noVersion, viewCluster}
 use Rattle.clusters.specs.Columns.{ColumnsOf}
 use Rattle.actions.specs.Action.{Action, actionsWithin}
 use Rattle.actions.specs.Refusals.{passInTurn}
+use Rattle.actions.specs.Staged.{stagedAs}
+use Rattle.actions.proofs.StagedLaws.{part-of}
 use Rattle.state.specs.View.{entriesMost}
 use Rattle.listed_actions.specs.Listed.{entryAction, listedActions}
-use Rattle.listed_actions.specs.InTurn.{passesUntouched, stagedAfter, passInTurnOn, passesAt}
+use Rattle.listed_actions.specs.InTurn.{passesUntouched, stagedAfter, passInTurnOn, stagedAt}
 use Rattle.listed_actions.proofs.Untouched.{pass-in-turn-is}
-use Rattle.listed_actions.proofs.ColumnTurn.{noEntry, place-or-first-below, passes-at, at-most-one-more, stops-touched, stops-refused, goes-on}
+use Rattle.listed_actions.proofs.ColumnTurn.{noEntry, place-or-first-below, staged-by-place, zero-untouched, at-most-one-more, stops-touched, stops-refused, goes-on}
 use Rattle.listed_actions.proofs.in_turn.pass_in_turn.Statement.{statement}
 use Rattle.listed_actions.proofs.in_turn.pass_in_turn.Tie as tie
 
@@ -78,37 +81,44 @@ mul-old c = let h = below c in omega arith
 element-copy-out-old : tie.Need-element-copy-out-old Inv-loop μ-loop
 element-copy-out-old c = below c
 
-passes-at-requires : tie.Need-passes-at-requires Inv-loop μ-loop
-passes-at-requires c κs = search needs
+staged-at-requires : tie.Need-staged-at-requires Inv-loop μ-loop
+staged-at-requires c κs = search needs
+
+staged-refusal-requires : tie.Need-staged-refusal-requires Inv-loop μ-loop
+staged-refusal-requires c κs = search needs
 
 -- ---- the places on the way to the answer on 12 to 15
 
-abbrev with-place : tie.After-passes-at Inv-loop μ-loop → tie.After-place-or-first Inv-loop μ-loop
-with-place k = k .before .before .before
+abbrev with-place : tie.After-staged-refusal Inv-loop μ-loop → tie.After-place-or-first Inv-loop μ-loop
+with-place k = k .before .before .before .before
 
-abbrev untouched : tie.After-passes-at Inv-loop μ-loop → tie.Else1 Inv-loop μ-loop
+abbrev untouched : tie.After-staged-refusal Inv-loop μ-loop → tie.Else1 Inv-loop μ-loop
 untouched k = with-place k .before .before .before .before
 
-abbrev turn : tie.After-passes-at Inv-loop μ-loop → tie.In-loop Inv-loop μ-loop
+abbrev turn : tie.After-staged-refusal Inv-loop μ-loop → tie.In-loop Inv-loop μ-loop
 turn k = untouched k .before .before .before .before .before .before .before
 
-told : (k : tie.After-passes-at Inv-loop μ-loop) → (let x = turn k in let a = x .before .before .before .args in
-    (t : Table) → ColumnsOf (a .t1) t → k .passes-at .result ≡ passesUntouched t (x .before .loop .staged) (entryAction (getD (a .t2) (x .before .loop .i) noEntry)))
+-- the number is 0 exactly where the entry's action passes 12 to 15
+told : (k : tie.After-staged-refusal Inv-loop μ-loop) → (let x = turn k in let a = x .before .before .before .args in
+    (t : Table) → ColumnsOf (a .t1) t → eqb (k .staged-refusal .result) 0 ≡ passesUntouched t (x .before .loop .staged) (entryAction (getD (a .t2) (x .before .loop .i) noEntry)))
 told k t of =
     let x = turn k in
     let a = x .before .before .before .args in
     let e = getD (a .t2) (x .before .loop .i) noEntry in
+    let c = viewCluster (e .action .cluster) in
     let p = with-place k in
-    k .passes-at .ensures
-    ∙ ap (λ (at : ℕ). passesAt (p .before .place-of .result) (getD (a .t1 .versions) at noVersion) (x .before .loop .staged) (e .action .change) (e .action .cluster .version)) (p .place-or-first .ensures)
-    ∙ passes-at (a .t1) t of (x .before .loop .staged) (e .action .change) (viewCluster (e .action .cluster)) noVersion (p .before .place-of .result) (p .before .place-of .ensures)
+    let here : k .before .staged-at .result ≡ stagedAs (find (c .part) t) =
+    k .before .staged-at .ensures
+    ∙ ap (λ (at : ℕ). stagedAt (p .before .place-of .result) (getD (a .t1 .versions) at noVersion)) (p .place-or-first .ensures)
+    ∙ staged-by-place (a .t1) t of (c .part) noVersion (p .before .place-of .result) (p .before .place-of .ensures) in
+    zero-untouched t _ _ _ _ (sym (part-of (e .action .change) c)) (k .staged-refusal .ensures _ c here refl)
 
 returns-2 : tie.Need-returns-2 Inv-loop μ-loop
 returns-2 c t of w within =
     let k = c .before in
     let x = turn k in
     let s = x .before .before .before in
-    stops-refused t (s .args .t2) (s .args .count) (x .before .loop .i) (x .before .loop .staged) (x .before .before .entry-columns .result .parts) (omega (arith, long s, s .pre .1)) (x .loop-test .taken) (x .before .before .entry-columns .ensures .parts) _ _ (x .before .loop .inv .2 t of w within) (sym (untouched k .before .is-among .ensures) ∙ untouched k .if1 .left) (told-no _ _ (told k t of) (c .if2 .taken))
+    stops-refused t (s .args .t2) (s .args .count) (x .before .loop .i) (x .before .loop .staged) (x .before .before .entry-columns .result .parts) (omega (arith, long s, s .pre .1)) (x .loop-test .taken) (x .before .before .entry-columns .ensures .parts) _ _ (x .before .loop .inv .2 t of w within) (sym (untouched k .before .is-among .ensures) ∙ untouched k .if1 .left) (sym (told k t of) ∙ ne-eqb _ _ (c .if2 .taken))
 
 staged-after-requires : tie.Need-staged-after-requires Inv-loop μ-loop
 staged-after-requires c κs = omega arith
@@ -131,7 +141,7 @@ loop-again c =
       omega (arith, x .loop-test .taken),
       omega (arith, after, at-most-one-more (entryAction e) (x .before .loop .staged), x .before .loop .inv .1),
       λ t of w within.
-          goes-on t (s .args .t2) (s .args .count) i (x .before .loop .staged) (x .before .before .entry-columns .result .parts) (omega (arith, long s, s .pre .1)) (x .loop-test .taken) (x .before .before .entry-columns .ensures .parts) _ _ (x .before .loop .inv .2 t of w within) (sym (untouched k .before .is-among .ensures) ∙ untouched k .if1 .left) (told-yes _ _ (told k t of) (c .before .if2 .left))
+          goes-on t (s .args .t2) (s .args .count) i (x .before .loop .staged) (x .before .before .entry-columns .result .parts) (omega (arith, long s, s .pre .1)) (x .loop-test .taken) (x .before .before .entry-columns .ensures .parts) _ _ (x .before .loop .inv .2 t of w within) (sym (untouched k .before .is-among .ensures) ∙ untouched k .if1 .left) (sym (told k t of) ∙ eq-eqb _ _ (c .before .if2 .left))
           ∙ ap (λ (n : ℕ). passInTurnOn t n (take (i + 1) listed) (drop (i + 1) listed)) (sym after),
     )
 
@@ -159,7 +169,8 @@ pass-in-turn-spec =
     place-or-first-requires
     mul-old
     element-copy-out-old
-    passes-at-requires
+    staged-at-requires
+    staged-refusal-requires
     returns-2
     staged-after-requires
     add-i

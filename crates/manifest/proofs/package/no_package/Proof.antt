@@ -4,11 +4,11 @@ use Rattle.manifest.proofs.PackageLaws.{cleared-is}
 use Rattle.manifest.proofs.package.no_package.Statement.{statement}
 use Rattle.manifest.proofs.package.no_package.Tie as tie
 
-bare-cluster-requires : tie.Need-bare-cluster-requires
-bare-cluster-requires c κs = search needs
+cleared-action-requires : tie.Need-cleared-action-requires
+cleared-action-requires c κs = search needs
 
 returns : tie.Need-returns
 returns c = search cleared-is
 
 pub no-package-spec : {M : Type 1} → statement M
-no-package-spec = tie.close (tie.spec bare-cluster-requires returns)
+no-package-spec = tie.close (tie.spec cleared-action-requires returns)

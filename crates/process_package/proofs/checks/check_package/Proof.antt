@@ -5,12 +5,12 @@ use mathlib.Core.Path.{_≡_, ap, _∙_}
 use mathlib.Core.List.{List}
 use Prim.Native.Nat.{ℕ, _≤_}
 use lib.ListN.{take, drop}
+use Rattle.base.proofs.RefusalNumbers.{told-not}
 use Rattle.manifest.specs.Package.{readPackage}
 use Rattle.manifest.specs.Answer.{refusalNumber, packageRead}
 use Rattle.model.specs.Areas.{declared}
 use Rattle.model.specs.Sound.{storeMost}
 use Rattle.state.specs.View.{viewPackages}
-use Rattle.state.proofs.Numbers.{told-not}
 use Rattle.process_package.proofs.CheckLaws.{area-part, numbers-fit, stopped-off, stopped-text, stopped-action, passed}
 use Rattle.process_package.proofs.checks.check_package.Statement.{statement}
 use Rattle.process_package.proofs.checks.check_package.Tie as tie
@@ -72,8 +72,8 @@ refused-check-requires-2 c κs = search needs
 returns-2 : tie.Need-returns-2
 returns-2 c = search (stopped-text, told-not, number-told)
 
-staged-refusal-requires : tie.Need-staged-refusal-requires
-staged-refusal-requires c κs = search needs
+session-refusal-requires : tie.Need-session-refusal-requires
+session-refusal-requires c κs = search needs
 
 refused-check-requires-3 : tie.Need-refused-check-requires-3
 refused-check-requires-3 c κs = search needs
@@ -81,8 +81,8 @@ refused-check-requires-3 c κs = search needs
 returns-3 : tie.Need-returns-3
 returns-3 c = search (stopped-action, told-not, number-told (c .before .before .before .before .before), read-told (c .before .before .before .before .before .before))
 
-begun-work-requires : tie.Need-begun-work-requires
-begun-work-requires c κs =
+work-of-package-requires : tie.Need-work-of-package-requires
+work-of-package-requires c κs =
     let r = c .before .before .before .before .before in
     let s = r .before .before .before .before .before .before .before in
     let short : s .args .p .size ≤ storeMost = omega (arith, s .pre .0 .area, s .pre .0 .room) in
@@ -108,8 +108,8 @@ check-package-spec =
     answer-refusal-requires
     refused-check-requires-2
     returns-2
-    staged-refusal-requires
+    session-refusal-requires
     refused-check-requires-3
     returns-3
-    begun-work-requires
+    work-of-package-requires
     returns-4)

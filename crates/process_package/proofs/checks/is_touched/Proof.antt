@@ -1,6 +1,6 @@
 -- `process_package::checks::is_touched` meets its contract: the column of part numbers is searched. Assumes nothing.
 use borrow.Author.Needs.{needs}
-use Rattle.process_package.proofs.StagedRefusal.{touched-among}
+use Rattle.process_package.proofs.SessionRefusal.{touched-among}
 use Rattle.process_package.proofs.checks.is_touched.Statement.{statement}
 use Rattle.process_package.proofs.checks.is_touched.Tie as tie
 

@@ -1,13 +1,13 @@
--- `process_package::checks::staged_refusal` meets its contract: the staged table, and whether the list has the cluster, decide. Assumes
+-- `process_package::checks::session_refusal` meets its contract: the staged table, and whether the list has the cluster, decide. Assumes
 -- nothing.
 use borrow.Author.Needs.{needs}
 use mathlib.Core.Path.{_≡_}
 use lib.ListN.{length}
 use Rattle.base.proofs.Counted.{unmapped}
 use Rattle.clusters.specs.Table.{clustersMost}
-use Rattle.process_package.proofs.StagedRefusal.{staged-few, told-staged}
-use Rattle.process_package.proofs.checks.staged_refusal.Statement.{statement}
-use Rattle.process_package.proofs.checks.staged_refusal.Tie as tie
+use Rattle.process_package.proofs.SessionRefusal.{staged-few, told-staged}
+use Rattle.process_package.proofs.checks.session_refusal.Statement.{statement}
+use Rattle.process_package.proofs.checks.session_refusal.Tie as tie
 
 long : (c : tie.Start) → length (c .args .session .beginning .clusters) ≡ clustersMost
 long c = search (needs, unmapped)
@@ -24,6 +24,6 @@ action-refusal-requires c κs = search (staged-few, long)
 returns : tie.Need-returns
 returns c = search (told-staged, long)
 
-pub staged-refusal-spec : {M : Type 1} → statement M
-staged-refusal-spec =
+pub session-refusal-spec : {M : Type 1} → statement M
+session-refusal-spec =
     tie.close (tie.spec is-touched-requires staged-requires action-refusal-requires returns)

@@ -14,6 +14,7 @@ use Rattle.actions.specs.declared.action.Action.{Action as ActionStruct}
 use Rattle.actions.specs.Action.{Action, actionPart, actionsWithin}
 use Rattle.actions.specs.Refusals.{touched, actionRefusal}
 use Rattle.actions.specs.View.{viewAction}
+use Rattle.actions.proofs.StagedLaws.{part-of}
 use Rattle.actions.proofs.Limits.{apply-all-within}
 use Rattle.model.specs.State.{actions}
 use Rattle.model.specs.Tables.{staged}
@@ -25,7 +26,7 @@ use Rattle.staging.specs.Staged.{stagedTable}
 use Rattle.staging.proofs.StagedViews.{view-staged}
 use Rattle.listed_actions.specs.declared.columns.EntryColumns.{EntryColumns}
 use Rattle.listed_actions.specs.Listed.{listedActions, EntryColumnsOf, isAmong}
-use Rattle.listed_actions.proofs.ColumnTurn.{part-of, among-touched}
+use Rattle.listed_actions.proofs.ColumnTurn.{among-touched}
 use Rattle.soundness.proofs.KeptParts.{same-actions}
 
 -- the list has the cluster exactly where its part number is among those of the column

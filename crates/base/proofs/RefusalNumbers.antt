@@ -7,9 +7,9 @@ use mathlib.Core.List.{List, [], _∷_}
 use mathlib.Core.Option.{none, some}
 use lib.Dec.{eqb}
 use borrow.Author.Tests.{not-true, eqb-false, eq-eqb, ne-eqb}
-use Rattle.base.specs.Refusals.{Refusal, refuse_when_, firstRefusal, numberOrZero}
+use Rattle.base.specs.Refusals.{Refusal, refuse_when_, firstRefusal, noneApplies, numberOrZero}
 use Rattle.base.proofs.Tests.{and-left, and-right, or-first, or-second}
 use Rattle.base.proofs.Ladder.{ladder, told, told-no, told-yes}
 
 -- ---- the number
 
@@ -58,6 +58,17 @@ zero-none (r ∷ rs) h z = go (r .applies) z (zero-none rs (and-right (not (eqb 
         → cond b (some (r .number)) (firstRefusal rs) ≡ none
     go true z ih = absurd (eqb-false (r .number) 0 (not-true _ (and-left (not (eqb (r .number) 0)) (noneZero rs) h)) (sym z))
     go false z ih = ih z
+
+-- and the check passes exactly where it answers 0
+pub zero-passes : (rs : List Refusal) (n : ℕ) → noneZero rs ≡ true → n ≡ numberOrZero (firstRefusal rs) → eqb n 0 ≡ noneApplies rs
+unfolding firstRefusal noneApplies
+zero-passes [] n h e = eq-eqb n 0 e
+zero-passes (r ∷ rs) n h e = go (r .applies) e (zero-passes rs n (and-right (not (eqb (r .number) 0)) (noneZero rs) h))
+  where
+    go : (b : Bool) → n ≡ numberOrZero (cond b (some (r .number)) (firstRefusal rs)) → (n ≡ numberOrZero (firstRefusal rs) → eqb n 0 ≡ noneApplies rs)
+        → eqb n 0 ≡ not b && noneApplies rs
+    go true e ih = rw e (not-true _ (and-left (not (eqb (r .number) 0)) (noneZero rs) h))
+    go false e ih = ih e
 
 -- a check of the parts decides as a call's own refusals do
 module _ (own rs : List Refusal) (n : ℕ) (e : n ≡ numberOrZero (firstRefusal rs)) (same : firstRefusal own ≡ firstRefusal rs) where

@@ -1,0 +1,139 @@
+// The refusals 11 to 15 of an action.
+use crate::action::Action;
+use crate::action::Change;
+use clusters::table::CLUSTERS_MOST;
+use clusters::table::Found;
+use clusters::table::Table;
+use clusters::table::find;
+use clusters::version::above;
+use refusal::CLUSTER_ABSENT;
+use refusal::CLUSTER_PRESENT;
+use refusal::CLUSTER_TOUCHED;
+use refusal::OLD_VERSION;
+use refusal::TABLE_FULL;
+use text::version::Version;
+ghost use mathlib.Core.Path.{_≡_};
+ghost use mathlib.Core.List.{List};
+ghost use mathlib.Core.Option.{Option};
+ghost use Prim.Native.Nat.{_≤_};
+ghost use Rattle.base.specs.Refusals.{firstRefusal, numberOrZero};
+ghost use Rattle.clusters.specs.Cluster.{Cluster as PlainCluster};
+ghost use Rattle.clusters.specs.Table as table;
+ghost use Rattle.clusters.specs.Table.{clustersMost};
+ghost use Rattle.clusters.specs.View.{viewTable};
+ghost use Rattle.actions.specs.Action.{Action as PlainAction, actionPart};
+ghost use Rattle.actions.specs.Refusals.{touched, isStaged, clusterPresent, clusterAbsent, oldVersion, tableFull, stagedRefusals, actionRefusal};
+ghost use Rattle.actions.specs.Staged.{stagedAs};
+ghost use Rattle.actions.specs.View.{actionOf, viewAction};
+
+// What is looked at of the cluster that is staged under a part number: its version, or that there is none.
+pub enum Staged {
+    At(Version),
+    Nothing,
+}
+
+// Whether there is one.
+fn is_staged(staged: Staged) -> bool
+    ensures { λ r. ⌜ ((found : Option PlainCluster) → staged ≡ stagedAs found → r ≡ isStaged found) ⌝ }
+{
+    match staged {
+        Staged::At(_) => true,
+        Staged::Nothing => false,
+    }
+}
+
+// "12. ClusterPresent: install of a staged cluster."
+fn cluster_present(staged: Staged, change: Change) -> bool
+    ensures { λ r. ⌜ ((found : Option PlainCluster) (c : PlainCluster) → staged ≡ stagedAs found → r ≡ clusterPresent found (actionOf change c)) ⌝ }
+{
+    match change {
+        Change::Install => is_staged(staged),
+        Change::Update => false,
+        Change::Remove => false,
+    }
+}
+
+// "13. ClusterAbsent: update or remove of one not staged."
+fn cluster_absent(staged: Staged, change: Change) -> bool
+    ensures { λ r. ⌜ ((found : Option PlainCluster) (c : PlainCluster) → staged ≡ stagedAs found → r ≡ clusterAbsent found (actionOf change c)) ⌝ }
+{
+    match change {
+        Change::Install => false,
+        Change::Update => !is_staged(staged),
+        Change::Remove => !is_staged(staged),
+    }
+}
+
+// "14. OldVersion: update not above the staged version."
+fn old_version(staged: Staged, change: Change, version: Version) -> bool
+    ensures { λ r. ⌜ ((found : Option PlainCluster) (c : PlainCluster) → staged ≡ stagedAs found → version ≡ c .version → r ≡ oldVersion found (actionOf change c)) ⌝ }
+{
+    let Staged::At(old) = staged else {
+        return false;
+    };
+    match change {
+        Change::Install => false,
+        Change::Update => !above(version, old),
+        Change::Remove => false,
+    }
+}
+
+// "15. TableFull: install with 64 staged."
+fn table_full(count: usize, change: Change) -> bool
+    ensures { λ r. ⌜ ((c : PlainCluster) → r ≡ tableFull count (actionOf change c)) ⌝ }
+{
+    match change {
+        Change::Install => count >= CLUSTERS_MOST,
+        Change::Update => false,
+        Change::Remove => false,
+    }
+}
+
+// The number of the first of 12 to 15 that applies, or 0: of a change to a version, by what is staged of the cluster and how many are
+// staged.
+pub fn staged_refusal(staged: Staged, count: usize, change: Change, version: Version) -> u32
+    ensures { λ r. ⌜ ((found : Option PlainCluster) (c : PlainCluster) → staged ≡ stagedAs found → version ≡ c .version → r ≡ numberOrZero (firstRefusal (stagedRefusals found count (actionOf change c)))) ⌝ }
+{
+    if cluster_present(staged, change) {
+        return CLUSTER_PRESENT;
+    }
+    if cluster_absent(staged, change) {
+        return CLUSTER_ABSENT;
+    }
+    if old_version(staged, change, version) {
+        return OLD_VERSION;
+    }
+    if table_full(count, change) {
+        return TABLE_FULL;
+    }
+    0
+}
+
+// What a table has under a part number. action_refusal passes on what it requires of the table.
+fn staged_in(t: Table, part: u32) -> Staged
+    requires { ⌜ t .count ≤ clustersMost ⌝ }
+    ensures { λ r. ⌜ r ≡ stagedAs (table.find part (viewTable t)) ⌝ }
+{
+    let Found::At(i) = find(t, part) else {
+        return Staged::Nothing;
+    };
+    let cluster = t.clusters[i];
+    let version = cluster.version;
+    Staged::At(version)
+}
+
+// The number of the first of the refusals 11 to 15 of an action on a staged table, or 0. Whether the session's list has the
+// cluster is the caller's to say; the check of the limits of the table meets what is required.
+pub fn action_refusal(t: Table, in_list: bool, a: Action) -> u32
+    requires { ⌜ t .count ≤ clustersMost ⌝ }
+    ensures { λ r. ⌜ ((listed : List PlainAction) → in_list ≡ touched (actionPart (viewAction a)) listed → r ≡ actionRefusal (viewTable t) listed (viewAction a)) ⌝ }
+{
+    if in_list {
+        return CLUSTER_TOUCHED;
+    }
+    let c = a.cluster;
+    let staged = staged_in(t, c.part);
+    let change = a.change;
+    let version = c.version;
+    staged_refusal(staged, t.count, change, version)
+}

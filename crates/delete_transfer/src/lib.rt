@@ -3,7 +3,7 @@ use areas::deletion::Deletion;
 use areas::deletion::delete_areas;
 use areas::deletion::remaining;
 use areas::lookup::find;
-use clusters::table::Found;
+use place_in_list::Found;
 use soundness::sound::sound;
 use state::answer::Answer;
 use state::answer::Answered;

@@ -14,8 +14,8 @@ use Rattle.base.specs.Refusals.{noneApplies}
 use Rattle.base.proofs.Tests.{bool-cases}
 use Rattle.base.proofs.Counted.{from-step}
 use Rattle.text.specs.declared.version.Version.{Version}
-use Rattle.clusters.specs.declared.table.Found.{Found}
-use Rattle.clusters.specs.declared.table.Found.the-variants.{At, Nothing}
+use Rattle.place_in_list.specs.declared.Found.{Found}
+use Rattle.place_in_list.specs.declared.Found.the-variants.{At, Nothing}
 use Rattle.clusters.specs.declared.columns.Columns.{Columns}
 use Rattle.clusters.specs.Version.{above}
 use Rattle.clusters.specs.Cluster.{Cluster}

@@ -2,8 +2,8 @@
 use areas::lookup::find;
 use areas::reading::answer_refusal;
 use areas::sizes::area_start;
-use clusters::table::Found;
 use manifest::package::read_package;
+use place_in_list::Found;
 use state::package::is_transferring;
 use state::refusal::INVALID_TRANSFER_ID;
 use state::refusal::WRONG_PACKAGE_STATE;

@@ -3,8 +3,7 @@ pub mod checks;
 
 use crate::checks::check_package;
 use areas::lookup::find;
-use clusters::table::Found;
-use soundness::phases::is_processing;
+use place_in_list::Found;
 use soundness::sound::sound;
 use state::answer::Answer;
 use state::answer::Answered;
@@ -16,6 +15,7 @@ use state::package::in_state;
 use state::permissions::PROCESS;
 use state::permissions::allowed;
 use state::phase::Phase;
+use state::phase::is_processing;
 use state::refusal::BAD_STATE;
 use state::refusal::INVALID_TRANSFER_ID;
 use state::refusal::OPERATION_NOT_PERMITTED;

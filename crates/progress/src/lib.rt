@@ -1,8 +1,7 @@
 // Progress: "Progress is floor(100 × done / payload), 100 for payload 0, and 0 outside Processing."
 use reading_reply::ReadingReply;
 use soundness::sound::sound;
-use state::phase::PROCESSING;
-use state::phase::phase_number;
+use state::phase::is_processing;
 use state::refusal::BAD_STATE;
 use state::state::State;
 use state::work::Work;
@@ -40,7 +39,7 @@ pub fn progress_on_sound(s: State, store: &[u8]) -> ReadingReply
     ensures { λ r. ⌜ replyOf r ≡ given (progressOf (viewState s .work)) ⌝ }
 {
     let phase = s.phase;
-    if phase_number(phase) != PROCESSING {
+    if !is_processing(phase) {
         return ReadingReply::Given(0);
     }
     let work = s.work;

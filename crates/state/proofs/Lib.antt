@@ -5,3 +5,6 @@ pub mod PackagesAlong
 pub mod Outcomes
 pub mod Numbers
 pub mod Ways
+pub mod OnlyInProcessing
+pub mod KeptValues
+pub mod GiveWork

@@ -3,6 +3,7 @@ use actions::action::Action;
 use actions::action::Change;
 use checksum::Sums;
 use clusters::cluster::new_cluster;
+use text::version::NO_VERSION;
 use text::version::Version;
 ghost use mathlib.Core.Path.{_≡_};
 ghost use Rattle.actions.specs.Struct.{clearedAction};
@@ -23,13 +24,7 @@ pub struct Work {
 pub fn cleared_action() -> Action
     ensures { λ r. ⌜ r ≡ clearedAction ⌝ }
 {
-    let no_version = Version {
-        first: 0,
-        second: 0,
-        third: 0,
-        fourth: 0,
-    };
-    let cluster = new_cluster(0, no_version);
+    let cluster = new_cluster(0, NO_VERSION);
     Action {
         change: Change::Install,
         cluster: cluster,

@@ -2,7 +2,7 @@
 use areas::lookup::find;
 use areas::reading::area_refusal;
 use areas::sizes::area_start;
-use clusters::table::Found;
+use place_in_list::Found;
 use soundness::sound::sound;
 use state::answer::Answer;
 use state::answer::Answered;

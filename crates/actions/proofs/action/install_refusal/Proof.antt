@@ -20,7 +20,7 @@ full-by-count c =
     ap (leb clustersMost) (table-length (c .args .t) (c .pre) long)
 
 absent : (c : tie.After-enum-told) → (let s = c .before .before .before in find (s .args .c .part) (viewTable (s .args .t)) ≡ none)
-absent c = nothing-found 0 _ _ (sym (c .before .before .find .ensures) ∙ c .enum-told .given .1)
+absent c = nothing-found 0 _ _ (sym (c .before .before .find .ensures .0) ∙ c .enum-told .given .1)
 
 find-requires : tie.Need-find-requires
 find-requires c κs = search needs
@@ -34,7 +34,7 @@ enum-told-2 c = search needs
 returns : tie.Need-returns
 returns c =
     let s = c .before .before .before in
-    sym (install-there _ _ _ (found-in _ _ _ (s .pre) (sym (c .before .before .find .ensures) ∙ c .enum-told2 .given .1) .there))
+    sym (install-there _ _ _ (found-in _ _ _ (s .pre) (sym (c .before .before .find .ensures .0) ∙ c .enum-told2 .given .1) .there))
 
 returns-2 : tie.Need-returns-2
 returns-2 c =

@@ -11,11 +11,11 @@ use Rattle.actions.proofs.action.remove_refusal.Tie as tie
 
 -- where the part number is found: the place counts, and the cluster there is the one found
 found : (c : tie.After-known-told) → (let s = c .before .before .before .before in FoundIn (s .args .part) (s .args .t) (c .before .i .given .0 .0))
-found c = found-in _ _ _ (c .before .before .before .before .pre) (sym (c .before .before .before .find .ensures) ∙ c .before .i .given .1)
+found c = found-in _ _ _ (c .before .before .before .before .pre) (sym (c .before .before .before .find .ensures .0) ∙ c .before .i .given .1)
 
 -- where it is not
 absent : (c : tie.After-enum-told) → (let s = c .before .before .before in find (s .args .part) (viewTable (s .args .t)) ≡ none)
-absent c = nothing-found 0 _ _ (sym (c .before .before .find .ensures) ∙ c .enum-told .given .1)
+absent c = nothing-found 0 _ _ (sym (c .before .before .find .ensures .0) ∙ c .enum-told .given .1)
 
 find-requires : tie.Need-find-requires
 find-requires c κs = search needs

@@ -1,7 +1,7 @@
 -- `listed_actions::in_turn::passes_at` meets its contract: a case for each answer of the search. Assumes nothing.
 use mathlib.Core.Path.{sym, ap, _∙_}
 use borrow.Author.Needs.{needs}
-use Rattle.clusters.specs.declared.table.Found.{Found}
+use Rattle.place_in_list.specs.declared.Found.{Found}
 use Rattle.listed_actions.specs.InTurn.{passesAt}
 use Rattle.listed_actions.proofs.in_turn.passes_at.Statement.{statement}
 use Rattle.listed_actions.proofs.in_turn.passes_at.Tie as tie

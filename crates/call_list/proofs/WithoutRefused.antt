@@ -10,7 +10,7 @@ use Rattle.model.specs.Calls.{Call, Reply, refused, accepted}
 use Rattle.model.specs.Step.{refusals}
 use Rattle.state.specs.declared.state.State.{State}
 use Rattle.state.specs.View.{viewState}
-use Rattle.state.specs.Outcome.{Outcome, replyOf, unlessRefused, called}
+use Rattle.state.specs.Outcome.{Outcome, replyOf, settled, called}
 use Rattle.manager.specs.Accepts.{accepts, exactStep}
 use Rattle.manager.proofs.GivesBack.{accepts-back}
 use Rattle.call_list.specs.Run.{Step, Made, Run, made, ran, runBy, acceptedOnly, callsOf, RefusedGivesBack, SameWithoutRefused}
@@ -67,11 +67,11 @@ without-refused step back s store (call ∷ calls) =
 
 -- they give back what they were handed, where what is given without a refusal does
 pub called-gives-back : (accepts : Step) → RefusedGivesBack accepts → RefusedGivesBack (λ s store call. called s store call (accepts s store call))
-unfolding called unlessRefused
+unfolding called settled
 called-gives-back accepts back s store call number e = go (firstRefusal (refusals (viewState s) store call)) e
   where
-    go : (refusal : Option ℕ) → replyOf (unlessRefused s store refusal (accepts s store call) .answered .answer) ≡ refused number
-        → (unlessRefused s store refusal (accepts s store call) .answered .state ≡ s) × (unlessRefused s store refusal (accepts s store call) .store ≡ store)
+    go : (refusal : Option ℕ) → replyOf (settled s store refusal (accepts s store call) .answered .answer) ≡ refused number
+        → (settled s store refusal (accepts s store call) .answered .state ≡ s) × (settled s store refusal (accepts s store call) .store ≡ store)
     go none e = back s store call number e
     go (some n) e = (refl, refl)
 

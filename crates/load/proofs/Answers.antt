@@ -26,14 +26,14 @@ use Rattle.state.specs.declared.answer.Answer.the-variants.{Done}
 use Rattle.state.specs.declared.answer.Answered.{Answered}
 use Rattle.state.specs.View.{viewState}
 use Rattle.state.specs.Exact.{loadedState}
-use Rattle.state.specs.Outcome.{outcome, answered, refusedBy, unlessRefused}
+use Rattle.state.specs.Outcome.{outcome, answered, refusedBy, settled}
 use Rattle.load.specs.Exact.{load}
 
 -- ---- refused
 
 module _ (s : State) (list : List ℕ) (first : ℕ) (store : Store) (r : Answered) (refused : r ≡ refusedBy s 20) where
   bad-refused : isBadLoad list first store ≡ true → outcome r store ≡ load s list first store
-  unfolding load unlessRefused firstRefusal
+  unfolding load settled firstRefusal
   bad-refused bad = rw (refused, bad)
 
   pub long-refused : storeMost < length store → outcome r store ≡ load s list first store
@@ -62,7 +62,7 @@ pub loads : (s : State) (list : List ℕ) (first : ℕ) (store after : Store) (r
     → tableRead read ≡ readList list → read ≡ listRead (readList list) → read .answer ≡ WellFormed
     → loaded ≡ loadedState (read .table) first → after ≡ replicate (length store) 0 → r ≡ answered Done loaded
     → outcome r after ≡ load s list first store
-unfolding load unlessRefused firstRefusal listRead
+unfolding load settled firstRefusal listRead
 loads s list first store after r read loaded room least most e exact well f zero given =
     let table = viewTable (read .table) in
     let is-read : readList list ≡ some table = sym e ∙ ap (λ (a : ListAnswer). tableOf a (read .table)) well in

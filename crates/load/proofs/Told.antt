@@ -12,7 +12,7 @@ use Rattle.model.specs.Load.{isBadLoad}
 use Rattle.state.specs.declared.state.State.{State}
 use Rattle.state.specs.declared.answer.Answer.{Answer}
 use Rattle.state.specs.declared.answer.Answer.the-variants.{Done}
-use Rattle.state.specs.Outcome.{Outcome, outcome, refusedBy, unlessRefused}
+use Rattle.state.specs.Outcome.{Outcome, outcome, refusedBy, settled}
 use Rattle.state.proofs.answer.Answer as answer
 use Rattle.load.specs.Exact.{load}
 
@@ -28,11 +28,11 @@ not-done a other d = absurd (miss otherAnswers 1 tt (subst IsOther d other))
 
 module _ (s : State) (list : List ℕ) (first : ℕ) (store : Store) where
   pub bad-load : isBadLoad list first store ≡ true → load s list first store ≡ outcome (refusedBy s 20) store
-  unfolding load unlessRefused firstRefusal
+  unfolding load settled firstRefusal
   bad-load e = rw e
 
   good-load : isBadLoad list first store ≡ false → load s list first store .answered .answer ≡ Done
-  unfolding load unlessRefused firstRefusal
+  unfolding load settled firstRefusal
   good-load e = rw e
 
   module _ (o : Outcome) (exact : o ≡ load s list first store) where

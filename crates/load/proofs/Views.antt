@@ -26,7 +26,7 @@ use Rattle.state.specs.View.{viewState}
 use Rattle.state.specs.Exact.{loadedState}
 use Rattle.state.specs.Outcome.{outcome, viewOutcome, SoundIfAccepted}
 use Rattle.state.proofs.Views.{view-loaded-state}
-use Rattle.state.proofs.Outcomes.{view-unless-refused}
+use Rattle.state.proofs.Outcomes.{view-settled}
 use Rattle.load.specs.Exact.{load}
 
 -- the one refusal does not apply
@@ -46,7 +46,7 @@ module _ (s : State) (list : List ℕ) (first : ℕ) (store : Store) where
   unfolding load model.load firstRefusal
   view-load =
       let zeros : Store = replicate (length store) 0 in
-      view-unless-refused s store (cond {A = Option ℕ} (isBadLoad list first store) (some 20) none) _ _
+      view-settled s store (cond {A = Option ℕ} (isBadLoad list first store) (some 20) none) _ _
       λ e. ap (λ s′. step.outcome calls.done s′ zeros) (view-accepted (not-refused (isBadLoad list first store) e))
 
   -- what the public call says, from the equation of its structs

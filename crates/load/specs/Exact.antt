@@ -10,11 +10,11 @@ use Rattle.model.specs.Load.{tableOrEmpty, isBadLoad}
 use Rattle.state.specs.declared.state.State.{State}
 use Rattle.state.specs.declared.answer.Answer.the-variants.{Done}
 use Rattle.state.specs.Exact.{loadedState}
-use Rattle.state.specs.Outcome.{Outcome, outcome, answered, unlessRefused}
+use Rattle.state.specs.Outcome.{Outcome, outcome, answered, settled}
 
 -- "It fills the store with 0 and gives the state Idle."; refused by 20 alone, it gives state and store back
 unfoldable pub load : State → List ℕ → ℕ → Store → Outcome
 load s list first store =
-    unlessRefused s store
+    settled s store
     (firstRefusal ((refuse 20 when isBadLoad list first store) ∷ []))
     (outcome (answered Done (loadedState (structTable (tableOrEmpty (readList list))) first)) (replicate (length store) 0))

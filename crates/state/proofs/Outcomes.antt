@@ -19,13 +19,13 @@ use Rattle.state.specs.declared.state.State.{State}
 use Rattle.state.specs.declared.answer.Answer.the-variants.{Done}
 use Rattle.state.specs.View.{viewTransfers, viewPhase, viewSession, viewWork, viewState}
 use Rattle.state.specs.Exact.{withTransfers}
-use Rattle.state.specs.Outcome.{Outcome, outcome, answered, refusedBy, viewOutcome, SoundIfAccepted, unlessRefused, called, calledOnSound}
+use Rattle.state.specs.Outcome.{Outcome, outcome, answered, refusedBy, viewOutcome, SoundIfAccepted, settled, called, calledOnSound}
 
-pub view-unless-refused : (s : State) (store : Store) (refusal : Option ℕ) (o : Outcome) (o′ : model.Outcome)
-    → (refusal ≡ none → viewOutcome o ≡ o′) → viewOutcome (unlessRefused s store refusal o) ≡ model.settled (viewState s) store refusal o′
-unfolding unlessRefused
-view-unless-refused s store none o o′ same = same refl
-view-unless-refused s store (some number) o o′ same = refl
+pub view-settled : (s : State) (store : Store) (refusal : Option ℕ) (o : Outcome) (o′ : model.Outcome)
+    → (refusal ≡ none → viewOutcome o ≡ o′) → viewOutcome (settled s store refusal o) ≡ model.settled (viewState s) store refusal o′
+unfolding settled
+view-settled s store none o o′ same = same refl
+view-settled s store (some number) o o′ same = refl
 
 -- an accepted call that changes the packages and the store alone
 pub view-packages : (s : State) (store : Store) (t : Transfers) (ps : List states.Package) (stored : Store)
@@ -39,11 +39,11 @@ pub view-called : (s : State) (store : Store) (call : Call) (o : Outcome)
     → (firstRefusal (model.refusals (viewState s) store call) ≡ none → viewOutcome o ≡ model.act (viewState s) store call)
     → viewOutcome (called s store call o) ≡ model.step (viewState s) store call
 unfolding called model.step
-view-called s store call o same = view-unless-refused s store (firstRefusal (model.refusals (viewState s) store call)) o _ same
+view-called s store call o same = view-settled s store (firstRefusal (model.refusals (viewState s) store call)) o _ same
 
 module _ (s : State) (store : Store) (call : Call) (o : Outcome) where
   pub called-unsound : sound (viewState s) store ≡ false → outcome (refusedBy s 1) store ≡ called s store call o
-  unfolding called unlessRefused
+  unfolding called settled
   called-unsound e = rw (unsound-refused (viewState s) store call e)
 
   pub called-sound : sound (viewState s) store ≡ true → calledOnSound s store call o ≡ called s store call o

@@ -22,7 +22,7 @@ use Rattle.state.specs.declared.answer.Answered.{Answered}
 use Rattle.state.specs.View.{viewPhase, viewState}
 use Rattle.state.specs.Permissions.{allowedNumber}
 use Rattle.state.specs.Exact.{withPackage, withTransfers}
-use Rattle.state.specs.Outcome.{Outcome, outcome, answered, refusedBy, viewOutcome, SoundIfAccepted, unlessRefused, called, calledOnSound}
+use Rattle.state.specs.Outcome.{Outcome, outcome, answered, refusedBy, viewOutcome, SoundIfAccepted, settled, called, calledOnSound}
 use Rattle.state.proofs.Numbers.{told-number, told-none}
 use Rattle.state.proofs.Permitted.{by-number}
 use Rattle.state.proofs.Outcomes.{view-called, called-unsound, called-sound, step-gives-sound}
@@ -47,24 +47,24 @@ give-store r r′ store store′ e f = rw (e, f)
 module _ (s : State) (store : Store) where
   -- by the number that a check of the parts answers
   pub refuse-number : (refusal : Option ℕ) (n : ℕ) (r : Answered) (o : Outcome) → n ≡ numberOrZero refusal → (n ≡ 0 → ⊥)
-      → r ≡ refusedBy s n → outcome r store ≡ unlessRefused s store refusal o
-  unfolding unlessRefused
+      → r ≡ refusedBy s n → outcome r store ≡ settled s store refusal o
+  unfolding settled
   refuse-number none n r o e f g = absurd (f e)
   refuse-number (some number) n r o e f g = rw (g, e)
 
   -- by the first of a list, or past it
   pub refuse-first : (n : ℕ) (b : Bool) (rs : List Refusal) (r : Answered) (o : Outcome) → b ≡ true → r ≡ refusedBy s n
-      → outcome r store ≡ unlessRefused s store (firstRefusal ((refuse n when b) ∷ rs)) o
-  unfolding unlessRefused
+      → outcome r store ≡ settled s store (firstRefusal ((refuse n when b) ∷ rs)) o
+  unfolding settled
   refuse-first n b rs r o e f = rw (refused-by (refuse n when b) rs e) (ap (λ (z : Answered). outcome z store) f)
 
-  pub pass-first : (n : ℕ) (b : Bool) (rs : List Refusal) (o given : Outcome) → b ≡ false → given ≡ unlessRefused s store (firstRefusal rs) o
-      → given ≡ unlessRefused s store (firstRefusal ((refuse n when b) ∷ rs)) o
+  pub pass-first : (n : ℕ) (b : Bool) (rs : List Refusal) (o given : Outcome) → b ≡ false → given ≡ settled s store (firstRefusal rs) o
+      → given ≡ settled s store (firstRefusal ((refuse n when b) ∷ rs)) o
   pass-first n b rs o given e f = rw (passed-over (refuse n when b) rs e) f
 
   -- accepted
-  pub accept : (refusal : Option ℕ) (o given : Outcome) → refusal ≡ none → given ≡ o → given ≡ unlessRefused s store refusal o
-  unfolding unlessRefused
+  pub accept : (refusal : Option ℕ) (o given : Outcome) → refusal ≡ none → given ≡ o → given ≡ settled s store refusal o
+  unfolding settled
   accept refusal o given e same = rw e same
 
   module _ (call : Call) (o : Outcome) where
@@ -88,7 +88,7 @@ module _ (s : State) (store : Store) where
 
       -- a permitted call is decided by its own refusals
       pub pass-permitted : (given : Outcome) → not b ≡ false
-          → given ≡ unlessRefused s store (firstRefusal (ownRefusals (viewState s) store call)) o → given ≡ calledOnSound s store call o
+          → given ≡ settled s store (firstRefusal (ownRefusals (viewState s) store call)) o → given ≡ calledOnSound s store call o
       unfolding calledOnSound furtherRefusals
       pass-permitted given e f =
           pass-first 2 busy _ o given free (pass-first 3 (not (allowed (viewPhase (s .phase)) call)) _ o given (same-test ∙ e) f)

@@ -57,14 +57,14 @@ SoundIfAccepted o =
     → sound (viewState (o .answered .state)) (o .store) ≡ true
 
 -- a refused call gives state and store back as they were
-unfoldable pub unlessRefused : State → Store → Option ℕ → Outcome → Outcome
-unlessRefused s store (some number) o = outcome (refusedBy s number) store
-unlessRefused s store none o = o
+unfoldable pub settled : State → Store → Option ℕ → Outcome → Outcome
+settled s store (some number) o = outcome (refusedBy s number) store
+settled s store none o = o
 
 -- a call whose refusals are those of the model, with what it gives where none applies
 unfoldable pub called : State → Store → calls.Call → Outcome → Outcome
-called s store call accepts = unlessRefused s store (firstRefusal (step.refusals (viewState s) store call)) accepts
+called s store call accepts = settled s store (firstRefusal (step.refusals (viewState s) store call)) accepts
 
 -- the same behind 1, of a sound state
 unfoldable pub calledOnSound : State → Store → calls.Call → Outcome → Outcome
-calledOnSound s store call accepts = unlessRefused s store (firstRefusal (step.furtherRefusals (viewState s) store call)) accepts
+calledOnSound s store call accepts = settled s store (firstRefusal (step.furtherRefusals (viewState s) store call)) accepts

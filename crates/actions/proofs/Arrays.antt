@@ -7,8 +7,9 @@ use native.Mathlib.Numerals.{add-one}
 use native.Mathlib.Omega.{arith}
 use lib.ListN.{length, take, drop, getD, set, length-take, length-append, length-drop, drop-of-length-le}
 use lib.Seq.{take-suc-set, take-set-lt, drop-set-lt, append-snoc, set-split, drop-drop, take-take}
+use Rattle.base.proofs.Counted.{seen-step, seen-end}
 use Rattle.clusters.specs.Exact.{putAt}
-use Rattle.clusters.proofs.Arrays.{seen-step, seen-end, set-put, first-of}
+use Rattle.clusters.proofs.Arrays.{set-put, first-of}
 
 module _ {A : Type 0} (xs : List A) (n : ℕ) (le : n ≤ length xs) where
   take-set-one : (j : ℕ) (x : A) → j < n → take (j + 1) (set xs j x) ≡ take j xs ++ (x ∷ [])

@@ -12,15 +12,15 @@ use lib.ListN.{length, take, drop}
 use borrow.Author.Tests.{eqb-true}
 use Rattle.base.proofs.Tests.{bool-cases, none-some}
 use Rattle.clusters.specs.declared.cluster.Cluster.{Cluster as ClusterStruct}
-use Rattle.clusters.specs.declared.table.Found.the-variants.{At}
+use Rattle.place_in_list.specs.declared.Found.the-variants.{At}
+use Rattle.place_in_list.proofs.Placed.{holds-at-place}
 use Rattle.clusters.specs.Cluster.{Cluster}
 use Rattle.clusters.specs.Table.{Table, find, risingAbove}
 use Rattle.clusters.specs.View.{viewCluster}
-use Rattle.clusters.specs.Place.{placeOf}
+use Rattle.clusters.specs.Place.{hasPart, placeOf}
 use Rattle.clusters.specs.Exact.{putAt}
 use Rattle.clusters.proofs.Limits.{rising-says}
 use Rattle.clusters.proofs.Equal.{find-low}
-use Rattle.clusters.proofs.Placing.{holds-at-place}
 use Rattle.actions.specs.Action.{insert, replace, takeOut}
 use Rattle.actions.specs.Place.{insertPlaceFrom}
 
@@ -67,7 +67,7 @@ changed-further part x t i z p = record {
 }
 
 pub changed-at : (part : ℕ) (t : Table) (i : ℕ) → placeOf part t ≡ At i → ChangedAt part t i
-changed-at part t i e = holds-at-place part (ChangedAt part) (changed-first part) (changed-further part) t i e
+changed-at part t i e = holds-at-place (hasPart part) (ChangedAt part) (changed-first part) (changed-further part) t i e
 
 -- ---- the place for one more cluster
 

@@ -11,8 +11,8 @@ use Rattle.base.proofs.Tests.{bool-cases, cond-true}
 use Rattle.base.proofs.Counted.{counted-few}
 use Rattle.clusters.specs.declared.cluster.Cluster.{Cluster as ClusterStruct}
 use Rattle.clusters.specs.declared.table.Table.{Table as TableStruct}
-use Rattle.clusters.specs.declared.table.Found.{Found}
-use Rattle.clusters.specs.declared.table.Found.the-variants.{At, Nothing}
+use Rattle.place_in_list.specs.declared.Found.{Found}
+use Rattle.place_in_list.specs.declared.Found.the-variants.{At, Nothing}
 use Rattle.clusters.specs.Table.{tableWithin, clustersMost}
 use Rattle.clusters.specs.View.{noCluster, viewCluster, viewTable}
 use Rattle.clusters.specs.Place.{placeOf}

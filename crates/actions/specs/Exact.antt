@@ -6,8 +6,8 @@ use lib.Dec.{leb}
 use lib.ListN.{take, drop}
 use Rattle.clusters.specs.declared.cluster.Cluster.{Cluster}
 use Rattle.clusters.specs.declared.table.Table.{Table}
-use Rattle.clusters.specs.declared.table.Found.{Found}
-use Rattle.clusters.specs.declared.table.Found.the-variants.{At, Nothing}
+use Rattle.place_in_list.specs.declared.Found.{Found}
+use Rattle.place_in_list.specs.declared.Found.the-variants.{At, Nothing}
 use Rattle.clusters.specs.Table.{clustersMost}
 use Rattle.clusters.specs.View.{viewTable}
 use Rattle.clusters.specs.Place.{placeOf}

@@ -6,7 +6,7 @@ use clusters::cluster::Cluster;
 use clusters::cluster::new_cluster;
 use clusters::table::CLUSTERS_MOST;
 use clusters::table::Table;
-use text::version::Version;
+use text::version::NO_VERSION;
 ghost use mathlib.Core.Path.{_≡_};
 ghost use Rattle.actions.specs.Exact.{apply};
 ghost use Rattle.actions.specs.Struct.{clearedAction};
@@ -27,13 +27,7 @@ pub struct Action {
 pub fn cleared_action() -> Action
     ensures { λ r. ⌜ r ≡ clearedAction ⌝ }
 {
-    let no_version = Version {
-        first: 0,
-        second: 0,
-        third: 0,
-        fourth: 0,
-    };
-    let cluster = new_cluster(0, no_version);
+    let cluster = new_cluster(0, NO_VERSION);
     Action {
         change: Change::Install,
         cluster: cluster,

@@ -1,8 +1,8 @@
 // Clusters put into a table, replaced and taken out. What is required of a table is met by the check of its limits.
 use clusters::cluster::Cluster;
-use clusters::table::Found;
 use clusters::table::Table;
 use clusters::table::find;
+use place_in_list::Found;
 ghost use mathlib.Core.Path.{_≡_};
 ghost use Prim.Native.Nat.{_≤_, _<_};
 ghost use Rattle.clusters.specs.Table.{clustersMost};

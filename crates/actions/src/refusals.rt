@@ -2,10 +2,10 @@
 use crate::action::Action;
 use crate::action::Change;
 use clusters::table::CLUSTERS_MOST;
-use clusters::table::Found;
 use clusters::table::Table;
 use clusters::table::find;
 use clusters::version::above;
+use place_in_list::Found;
 use refusal::CLUSTER_ABSENT;
 use refusal::CLUSTER_PRESENT;
 use refusal::CLUSTER_TOUCHED;

@@ -7,8 +7,8 @@ use native.Mathlib.Omega.{arith}
 use lib.Dec.{eqb}
 use lib.ListN.{length}
 use Rattle.base.proofs.Tests.{bool-cases}
-use Rattle.clusters.specs.declared.table.Found.{Found}
-use Rattle.clusters.specs.declared.table.Found.the-variants.{At, Nothing}
+use Rattle.place_in_list.specs.declared.Found.{Found}
+use Rattle.place_in_list.specs.declared.Found.the-variants.{At, Nothing}
 use Rattle.clusters.specs.Exact.{putAt}
 use Rattle.clusters.proofs.Arrays.{set-put}
 use Rattle.model.specs.State as model
@@ -55,7 +55,7 @@ module _ (t : Transfers) (few : t .count ≤ packagesMost) (long : length (t .pa
       by-packages e = ap (λ (l : List model.Package). withPackages l (viewTransfers t)) e
 
       go : (r : Found) → placeOf id ps ≡ r → viewTransfers (changedAt change t r) ≡ withPackages (changed id change′ ps) (viewTransfers t)
-      go Nothing e = by-packages (nothing-changed id change′ ps (nothing-found 0 id ps e))
+      go Nothing e = by-packages (nothing-changed id change′ ps (nothing-found id ps e))
       go (At i) e =
           let first = place-first id ps i e in
           let below : i < t .count = omega (arith, first-below first, packages-length t few long) in

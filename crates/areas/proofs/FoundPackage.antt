@@ -1,17 +1,19 @@
 -- What a search for the package with an id says to a call on a sound state. Where it finds nothing the id is unknown. Where it finds a
 -- place, the model's package with the id is the one there, and its area lies in the store and has the model's bytes. Assumes nothing.
-use Prim.Native.Nat.{ℕ, suc, _+_, _-_, _≤_, _<_}
-use mathlib.Core.Path.{_≡_, refl, sym, ap, subst, _∙_}
-use mathlib.Core.Bool.{true}
+use Prim.Native.Nat.{ℕ, _+_, _-_, _≤_, _<_}
+use mathlib.Core.Path.{_≡_, refl, sym, ap, _∙_}
+use mathlib.Core.Bool.{true, cond}
 use mathlib.Core.List.{List, [], _∷_}
 use mathlib.Core.Option.{none, some}
 use native.Mathlib.Omega.{arith}
-use lib.Dec.{eqb}
 use lib.ListN.{length, take, drop}
 use borrow.Author.Tests.{le-leb, leb-true}
 use Rattle.base.proofs.Tests.{bool-cases}
-use Rattle.clusters.specs.declared.table.Found.{Found}
-use Rattle.clusters.specs.declared.table.Found.the-variants.{At, Nothing}
+use Rattle.place_in_list.specs.declared.Found.{Found}
+use Rattle.place_in_list.specs.declared.Found.the-variants.{At, Nothing}
+use Rattle.place_in_list.specs.Place.{firstPlace, foundIn}
+use Rattle.place_in_list.proofs.Placed as placed
+use Rattle.place_in_list.proofs.Placed.{holds-at-place}
 use Rattle.model.specs.State as model
 use Rattle.model.specs.State.{Store}
 use Rattle.model.specs.Areas.{declared, find, areaStart, areaOf, isTransferring}
@@ -26,7 +28,7 @@ use Rattle.state.specs.declared.transfers.Transfers.{Transfers}
 use Rattle.state.specs.declared.state.State.{State}
 use Rattle.state.specs.View.{viewPackage, clearedPackage, viewPackages, viewState}
 use Rattle.state.proofs.Views.{packages-fit}
-use Rattle.areas.specs.Place.{placeFrom, placeOf}
+use Rattle.areas.specs.Place.{hasId, placeOf}
 use Rattle.areas.specs.Inside.{AreaInside}
 use Rattle.areas.specs.Changed.{packageAt}
 use Rattle.state.proofs.PackagesAlong.{packages-length, package-at}
@@ -42,34 +44,31 @@ areas-fit s store ok = (count-fits s store ok, sound-says (viewState s) store ok
 
 -- ---- the search
 
--- a place that is found is that of the first with the id; k is the place of the list's first
-first-from : (k id : ℕ) (ps : List model.Package) (i : ℕ) → placeFrom k id ps ≡ At i → (k ≤ i) × FirstAt id ps (i - k)
-unfolding placeFrom
-first-from k id [] i e = absurd (let z : _≡_ {A = ℕ} 0 1 = cc in omega arith)
-first-from k id (p ∷ ps) i e =
-    let ih : placeFrom (k + 1) id ps ≡ At i → (k + 1 ≤ i) × FirstAt id ps (i - (k + 1)) = first-from (k + 1) id ps i in
-    bool-cases (eqb id (p .id))
-    (λ b. let same : k ≡ i = cc (rw b at e) in
-    let at : 0 ≡ i - k = omega arith in
-    (omega arith, subst (λ (j : ℕ). FirstAt id (p ∷ ps) j) at (here b)))
-    λ b. let later = ih (rw b at e) in
-    let at : suc (i - (k + 1)) ≡ i - k = omega arith in
-    (omega arith, subst (λ (j : ℕ). FirstAt id (p ∷ ps) j) at (there b (later .1)))
-
+-- a place that is found is that of the first with the id
 pub place-first : (id : ℕ) (ps : List model.Package) (i : ℕ) → placeOf id ps ≡ At i → FirstAt id ps i
-place-first id ps i e = let same : i - 0 ≡ i = omega arith in subst (λ (j : ℕ). FirstAt id ps j) same (first-from 0 id ps i e .1)
+unfolding placeOf
+place-first id ps i e = holds-at-place (hasId id) (FirstAt id) (λ p ps b. here b) (λ p ps i b f. there b f) ps i e
+
+finds-none : (id : ℕ) → find id [] ≡ none
+unfolding find
+finds-none id = refl
+
+finds-first : (id : ℕ) (p : model.Package) (ps : List model.Package) → find id (p ∷ ps) ≡ cond (hasId id p) (some p) (find id ps)
+unfolding find
+finds-first id p ps = refl
+
+-- the search finds what the definition finds: r is what the search gave
+pub found-is : (id : ℕ) (ps : List model.Package) (r : Found) → r ≡ firstPlace (hasId id) 0 ps → foundIn ps r ≡ find id ps
+found-is id ps r e = placed.found-is (hasId id) (find id) (finds-none id) (finds-first id) ps r e
 
 -- where nothing is found no package has the id
-pub nothing-found : (k id : ℕ) (ps : List model.Package) → placeFrom k id ps ≡ Nothing → find id ps ≡ none
-unfolding placeFrom find
-nothing-found k id [] e = refl
-nothing-found k id (p ∷ ps) e =
-    let ih : placeFrom (k + 1) id ps ≡ Nothing → find id ps ≡ none = nothing-found (k + 1) id ps in
-    bool-cases (eqb id (p .id)) (λ b. let z : _≡_ {A = ℕ} 0 1 = cc (rw b at e) in absurd (omega arith)) λ b. rw b (ih (rw b at e))
+pub nothing-found : (id : ℕ) (ps : List model.Package) → placeOf id ps ≡ Nothing → find id ps ≡ none
+unfolding placeOf
+nothing-found id ps e = sym (found-is id ps Nothing (sym e))
 
 -- "4. InvalidTransferId: no package has the id": r is what `find` gave
 pub nothing-unknown : (r : Found) (id : ℕ) (ps : List model.Package) → r ≡ placeOf id ps → r ≡ Nothing → unknown id ps ≡ true
-nothing-unknown r id ps e f = rw (unknown, nothing-found 0 id ps (sym e ∙ f))
+nothing-unknown r id ps e f = rw (unknown, nothing-found id ps (sym e ∙ f))
 
 -- ---- a package found
 

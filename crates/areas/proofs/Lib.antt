@@ -3,3 +3,5 @@ pub mod FoundPackage
 pub mod ChangedPackage
 pub mod FirstPlaces
 pub mod Kept
+pub mod ProcessingPlace
+pub mod InProcessing

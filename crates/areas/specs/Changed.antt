@@ -1,8 +1,8 @@
 -- The transfers with the package of an id changed, as structs.
 use Prim.Native.Nat.{ℕ}
 use lib.ListN.{getD}
-use Rattle.clusters.specs.declared.table.Found.{Found}
-use Rattle.clusters.specs.declared.table.Found.the-variants.{At, Nothing}
+use Rattle.place_in_list.specs.declared.Found.{Found}
+use Rattle.place_in_list.specs.declared.Found.the-variants.{At, Nothing}
 use Rattle.state.specs.declared.package.Package.{Package}
 use Rattle.state.specs.declared.transfers.Transfers.{Transfers}
 use Rattle.state.specs.View.{clearedPackage, viewPackages}

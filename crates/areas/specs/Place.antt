@@ -1,23 +1,27 @@
--- Where packages stand in their list, as indices from 0.
-use Prim.Native.Nat.{ℕ, _+_}
-use mathlib.Core.Bool.{cond}
-use mathlib.Core.List.{List, [], _∷_}
-use mathlib.Core.Option.{Option, none}
+-- Where packages stand in their list.
+use Prim.Native.Nat.{ℕ}
+use mathlib.Core.Bool.{Bool}
+use mathlib.Core.List.{List}
 use lib.Dec.{eqb}
-use lib.ListN.{getElem?}
-use Rattle.clusters.specs.declared.table.Found.{Found}
-use Rattle.clusters.specs.declared.table.Found.the-variants.{At, Nothing}
+use lib.ListN.{length}
+use Rattle.place_in_list.specs.declared.Found.{Found}
+use Rattle.place_in_list.specs.Place.{firstPlace, placeOr}
 use Rattle.model.specs.State.{Package}
+use Rattle.model.specs.Areas.{isBeingProcessed}
 
--- the place of the first package with an id, in a list whose first package has the place i
-unfoldable pub placeFrom : ℕ → ℕ → List Package → Found
-placeFrom i id [] = Nothing
-placeFrom i id (p ∷ ps) = cond (eqb id (p .id)) (At i) (placeFrom (i + 1) id ps)
+-- a package has the id
+abbrev pub hasId : ℕ → Package → Bool
+hasId id p = eqb id (p .id)
 
-abbrev pub placeOf : ℕ → List Package → Found
-placeOf id ps = placeFrom 0 id ps
+-- the place of the package with an id
+unfoldable pub placeOf : ℕ → List Package → Found
+placeOf id ps = firstPlace (hasId id) 0 ps
 
--- the package that an answer of the search stands for: the definition for each case of the enum
-abbrev pub foundPackage : List Package → Found → Option Package
-foundPackage ps (At i) = getElem? ps i
-foundPackage ps Nothing = none
+-- a package is Processing
+abbrev pub inProcessing : Package → Bool
+inProcessing p = isBeingProcessed (p .state)
+
+-- the place of the package whose id the model calls `processingId`; where no package is processing, the number of packages. "one package
+-- is Processing .. exactly in state Processing"
+unfoldable pub processingPlace : List Package → ℕ
+processingPlace ps = placeOr (length ps) (firstPlace inProcessing 0 ps)

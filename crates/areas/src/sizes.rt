@@ -24,13 +24,13 @@ pub fn area_start(t: Transfers, i: usize) -> usize
 }
 
 // The bytes of a store of a length that no package declares. A sound state meets what is required.
-pub fn free_bytes(t: Transfers, length: usize) -> usize
+pub fn free_bytes(t: Transfers, store_length: usize) -> usize
     requires { ⌜ t .count ≤ packagesMost ⌝ }
-    ensures { λ r. ⌜ r ≡ length - declared (viewPackages t) ⌝ }
+    ensures { λ r. ⌜ r ≡ «store_length» - declared (viewPackages t) ⌝ }
 {
     let declared = area_start(t, t.count);
-    if declared > length {
+    if declared > store_length {
         return 0;
     }
-    length - declared
+    store_length - declared
 }

@@ -27,7 +27,21 @@ module _ {A : Type 0} (most n : ℕ) (d : A) (xs : List A) where
   pub counted-few : n ≤ most → counted most d n xs ≡ take n xs
   counted-few h = rw (le-leb n most h)
 
--- the list that a loop goes along
+-- an array's first n elements, as a loop goes along them
+module _ {A : Type 0} (xs : List A) (n : ℕ) (le : n ≤ length xs) where
+  length-seen : length (take n xs) ≡ n
+  length-seen = simp length-take (omega arith)
+
+  -- what stands from i on: the element at i, then what stands from i + 1 on
+  pub seen-step : (i : ℕ) (d : A) → i < n → drop i (take n xs) ≡ getD xs i d ∷ drop (i + 1) (take n xs)
+  seen-step i d h =
+      let l : i < length (take n xs) = rw length-seen h in
+      rw (drop-cons (take n xs) i d l, getD-take n xs i d h, add-one)
+
+  pub seen-end : (i : ℕ) → n ≤ i → drop i (take n xs) ≡ []
+  seen-end i h = drop-of-length-le (take n xs) {i = i} (rw length-seen h)
+
+-- the same where each element is seen through a view
 module _ {A B : Type 0} (f : A → B) (xs : List A) (n : ℕ) (le : n ≤ length xs) where
   length-first : length (map f (take n xs)) ≡ n
   length-first = simp (length-map, length-take) (omega arith)

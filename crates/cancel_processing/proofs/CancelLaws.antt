@@ -18,8 +18,8 @@ use Rattle.state.specs.declared.answer.Answer.the-variants.{Done}
 use Rattle.state.specs.View.{viewPackages, isClearedWork, viewState}
 use Rattle.state.specs.Outcome.{viewOutcome}
 use Rattle.areas.specs.Changed.{packageAt}
-use Rattle.package_processing.proofs.InProcessing.{accepted-kept, InProcessing}
-use Rattle.package_processing.proofs.GiveWork.{view-with-work}
+use Rattle.areas.proofs.InProcessing.{accepted-kept, InProcessing}
+use Rattle.state.proofs.GiveWork.{view-with-work}
 use Rattle.cancel_processing.specs.Cancel.{withCancelNoted, cancelNoted}
 
 -- "4. InvalidTransferId: .. or Cancel names another than the one processing.", by the package at the place

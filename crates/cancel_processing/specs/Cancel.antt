@@ -5,7 +5,7 @@ use Rattle.state.specs.declared.work.Work.{Work}
 use Rattle.state.specs.declared.state.State.{State}
 use Rattle.state.specs.declared.answer.Answer.the-variants.{Done}
 use Rattle.state.specs.Outcome.{Outcome, outcome, answered}
-use Rattle.package_processing.specs.Processing.{withWork}
+use Rattle.state.specs.Exact.{withWork}
 
 -- the kept values with the cancel noted
 abbrev pub withCancelNoted : Work → Work

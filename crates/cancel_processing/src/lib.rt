@@ -1,6 +1,5 @@
 // Cancel: the cancel is noted, and the next Work ends the processing by it.
-use package_processing::processing_place;
-use package_processing::with_work;
+use areas::lookup::processing_place;
 use refusal::BAD_STATE;
 use refusal::INVALID_TRANSFER_ID;
 use refusal::OPERATION_NOT_PERMITTED;
@@ -12,6 +11,7 @@ use state::answer::refused;
 use state::permissions::CANCEL;
 use state::permissions::allowed;
 use state::state::State;
+use state::state::with_work;
 ghost use mathlib.Core.Path.{_≡_};
 ghost use mathlib.Core.Bool.{true};
 ghost use lib.ListN.{length};
@@ -21,7 +21,7 @@ ghost use Rattle.model.specs.Step.{step};
 ghost use Rattle.state.specs.View.{viewState};
 ghost use Rattle.state.specs.declared.answer.Answer.the-variants.{Done};
 ghost use Rattle.state.specs.Outcome.{outcome, answered, viewOutcome, SoundIfAccepted, called, calledOnSound};
-ghost use Rattle.package_processing.specs.Processing.{withWork};
+ghost use Rattle.state.specs.Exact.{withWork};
 ghost use Rattle.cancel_processing.specs.Cancel.{withCancelNoted, cancelNoted};
 
 // The state with the cancel noted.

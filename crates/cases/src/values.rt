@@ -1,6 +1,7 @@
 // Values that fields of a case say.
 use text::number::Number;
 use text::number::whole_number;
+use text::version::NO_VERSION;
 use text::version::Version;
 use text::version::VersionRead;
 use text::version::whole_version;
@@ -16,12 +17,7 @@ pub fn number_of(s: &[u8]) -> u32 {
 // The version that a text is, or 0.0.0.0.
 pub fn version_of(s: &[u8]) -> Version {
     let VersionRead::Value(version, _) = whole_version(s) else {
-        return Version {
-            first: 0,
-            second: 0,
-            third: 0,
-            fourth: 0,
-        };
+        return NO_VERSION;
     };
     version
 }

@@ -10,8 +10,6 @@ use Rattle.base.proofs.Counted.{from-step, from-end}
 use Rattle.text.specs.Put.{Put}
 use Rattle.text.proofs.PutLaws.{put-length, put-then}
 use Rattle.rows.specs.Line.{lineText}
-use Rattle.clusters.specs.View.{noCluster}
-use Rattle.actions.specs.declared.action.Change.the-variants.{Install}
 use Rattle.actions.specs.Action.{Action}
 use Rattle.actions.specs.View.{viewAction}
 use Rattle.model.specs.State as model
@@ -22,15 +20,11 @@ use Rattle.model.proofs.reading.Lengths.{change-info-most}
 use Rattle.state.specs.declared.session.Entry.{Entry}
 use Rattle.state.specs.declared.session.Session.{Session}
 use Rattle.state.specs.declared.state.State.{State}
-use Rattle.state.specs.View.{entriesMost, viewEntry, viewState}
+use Rattle.state.specs.View.{entriesMost, viewEntry, noEntry, viewState}
 use Rattle.state.proofs.Views.{entries-few}
 use Rattle.soundness.proofs.SoundSession.{session-fits}
 use Rattle.reading_reply.specs.Reply.{reportOnSound}
 use Rattle.change_info.specs.Changes.{changeNames, changeLine, listedActions, changesText}
-
--- what is read past an array's end
-abbrev pub noEntry : Entry
-noEntry = record { id = 0; action = record { change = Install; cluster = noCluster } }
 
 abbrev entryAction : Entry → Action
 entryAction e = viewAction (e .action)

@@ -8,13 +8,12 @@ use lib.Dec.{leb}
 use lib.ListN.{length, take, drop, getD, length-map, length-take, List·getD-map}
 use lib.Seq.{getD-take}
 use borrow.Author.Tests.{le-leb, lt-leb}
-use Rattle.base.proofs.Counted.{counted-few, counted-fits, from-step, from-end}
+use Rattle.base.proofs.Counted.{counted-few, counted-fits, seen-step, seen-end, from-step, from-end}
 use Rattle.clusters.specs.declared.cluster.Cluster.{Cluster}
 use Rattle.clusters.specs.declared.table.Table.{Table}
 use Rattle.clusters.specs.Cluster.{needsMost}
 use Rattle.clusters.specs.Table.{clustersMost}
 use Rattle.clusters.specs.View.{noNeed, noCluster, viewCluster, viewTable}
-use Rattle.clusters.proofs.Arrays.{seen-step, seen-end}
 
 pub view-few : (t : Table) → t .count ≤ clustersMost → viewTable t ≡ map viewCluster (take (t .count) (t .clusters))
 view-few t few = ap (map viewCluster) (counted-few clustersMost (t .count) noCluster (t .clusters) few)

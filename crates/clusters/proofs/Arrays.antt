@@ -1,29 +1,15 @@
--- Laws of an array's first elements, for any element type: what loops that read go by, and what stands there after a store.
--- Assumes nothing.
+-- Laws of an array's first elements, for any element type: what stands there after a store. Assumes nothing.
 use Prim.Native.Nat.{ℕ, _+_, _≤_, _<_, min}
 use mathlib.Core.Path.{_≡_}
 use mathlib.Core.List.{List, [], _∷_, _++_, append-nil}
 use native.Mathlib.Numerals.{add-one}
 use native.Mathlib.Omega.{arith}
 use lib.Dec.{leb}
-use lib.ListN.{length, take, drop, getD, set, length-take, length-append, drop-of-length-le}
-use lib.Seq.{drop-cons, getD-take, append-snoc, set-split, take-at, take-all}
+use lib.ListN.{length, take, drop, set, length-take, length-append, drop-of-length-le}
+use lib.Seq.{append-snoc, set-split, take-at, take-all}
 use borrow.Author.Tests.{leb-true, leb-false}
 use Rattle.base.proofs.Tests.{bool-cases}
 use Rattle.clusters.specs.Exact.{putAt}
-
-module _ {A : Type 0} (xs : List A) (n : ℕ) (le : n ≤ length xs) where
-  length-seen : length (take n xs) ≡ n
-  length-seen = simp length-take (omega arith)
-
-  -- what stands from i on: the element at i, then what stands from i + 1 on
-  pub seen-step : (i : ℕ) (d : A) → i < n → drop i (take n xs) ≡ getD xs i d ∷ drop (i + 1) (take n xs)
-  seen-step i d h =
-      let l : i < length (take n xs) = rw length-seen h in
-      rw (drop-cons (take n xs) i d l, getD-take n xs i d h, add-one)
-
-  pub seen-end : (i : ℕ) → n ≤ i → drop i (take n xs) ≡ []
-  seen-end i h = drop-of-length-le (take n xs) {i = i} (rw length-seen h)
 
 module _ {A : Type 0} where
   -- a store of the code

@@ -1,7 +1,6 @@
 -- What is found in the columns of a table is what is found in the table, and how a loop fills a column. Assumes nothing.
-use Prim.Native.Nat.{ℕ, suc, _+_, _<_}
+use Prim.Native.Nat.{ℕ, _+_, _<_}
 use mathlib.Core.Path.{_≡_, refl, sym, ap, _∙_}
-use mathlib.Core.Bool.{Bool, true, false, cond}
 use mathlib.Core.List.{List, [], _∷_, map, map-append}
 use mathlib.Core.Option.{none, some}
 use native.Mathlib.Numerals.{add-one}
@@ -10,11 +9,12 @@ use lib.Dec.{eqb}
 use lib.ListN.{length, take, getD, set, length-take, List·getD-map}
 use lib.Seq.{getD-take, take-suc, take-suc-set}
 use Rattle.text.specs.declared.version.Version.{Version}
-use Rattle.clusters.specs.declared.table.Found.the-variants.{At, Nothing}
+use Rattle.place_in_list.specs.declared.Found.the-variants.{At, Nothing}
+use Rattle.place_in_list.proofs.Placed.{place-in-map, placed-in}
 use Rattle.clusters.specs.declared.columns.Columns.{Columns}
 use Rattle.clusters.specs.Cluster.{Cluster, cluster}
 use Rattle.clusters.specs.Table.{Table, find}
-use Rattle.clusters.specs.Place.{placeAmong, placeOf}
+use Rattle.clusters.specs.Place.{placeAmong, partOf, placeOf}
 use Rattle.clusters.specs.Columns.{versionOf, ColumnsOf}
 use Rattle.clusters.proofs.Placing.{place-says, nothing-found}
 
@@ -31,23 +31,14 @@ map-twice f g (x ∷ xs) = ap (λ (l : List _). g (f x) ∷ l) (map-twice f g xs
 
 -- ---- the place that is found is one of those that count
 
-place-low : (base part : ℕ) (parts : List ℕ) (i : ℕ) → placeAmong base part parts ≡ At i → i < base + length parts
-unfolding placeAmong
-place-low base part [] i e = let z : _≡_ {A = ℕ} 0 1 = cc in absurd (omega arith)
-place-low base part (p ∷ parts) i e = go (eqb part p) e (place-low (base + 1) part parts i)
-  where
-    go : (b : Bool) → cond b (At base) (placeAmong (base + 1) part parts) ≡ At i → (placeAmong (base + 1) part parts ≡ At i → i < base + 1 + length parts) → i < base + suc (length parts)
-    go true e ih = let s : base ≡ i = cc in omega arith
-    go false e ih = omega (arith, ih e)
-
 pub place-below : (part count : ℕ) (parts : List ℕ) (i : ℕ) → placeAmong 0 part (take count parts) ≡ At i → i < count
-place-below part count parts i e = omega (arith, place-low 0 part (take count parts) i e, length-take count parts)
+place-below part count parts i e = omega (arith, placed-in (eqb part) (take count parts) i e .below, length-take count parts)
 
 -- ---- what is found in the columns is what is found in the table
 
 module _ (columns : Columns) (t : Table) (of : ColumnsOf columns t) (part : ℕ) where
   same-place : placeAmong 0 part (take (columns .count) (columns .parts)) ≡ placeOf part t
-  same-place = ap (placeAmong 0 part) (of .parts)
+  same-place = ap (placeAmong 0 part) (of .parts) ∙ place-in-map partOf (eqb part) 0 t
 
   pub none-among : placeAmong 0 part (take (columns .count) (columns .parts)) ≡ Nothing → find part t ≡ none
   none-among e = nothing-found 0 part t (sym same-place ∙ e)

@@ -8,12 +8,13 @@ use lib.ListN.{replicate}
 use Rattle.text.specs.declared.version.Version.{Version}
 use Rattle.text.specs.Version.{version, versionWithin}
 use Rattle.clusters.specs.declared.cluster.Need.{Need}
-use Rattle.clusters.specs.declared.table.Found.{Found}
-use Rattle.clusters.specs.declared.table.Found.the-variants.{At, Nothing}
 use Rattle.clusters.specs.Version.{above, atOrAbove}
 use Rattle.clusters.specs.Cluster.{Cluster, cluster, need, partWithin, needWithin, needsWithin, clusterWithin}
 use Rattle.clusters.specs.Table.{Table, find, meets, meetsAll, needsMetOf, needsMet, risingAbove, tableWithin}
-use Rattle.clusters.specs.Place.{placeAmong, placeOf}
+use Rattle.place_in_list.specs.declared.Found.{Found}
+use Rattle.place_in_list.specs.declared.Found.the-variants.{At, Nothing}
+use Rattle.place_in_list.specs.Place.{firstPlace}
+use Rattle.clusters.specs.Place.{placeOf}
 use Rattle.base.proofs.Tables.{_gives_, AllHold}
 
 -- ---- versions
@@ -142,7 +143,7 @@ pub found : AllHold lookedUp (
     ∷ 15 gives (none, Nothing)
     ∷ 31 gives (none, Nothing)
     ∷ [])
-unfolding find placeAmong
+unfolding find firstPlace
 found = refl
 
 -- ---- needs

@@ -1,4 +1,5 @@
 // A cluster: a part number, a version and its needs in order.
+use text::version::NO_VERSION;
 use text::version::Version;
 ghost use mathlib.Core.Path.{_≡_};
 ghost use Prim.Native.Nat.{_<_};
@@ -26,15 +27,9 @@ pub struct Cluster {
 pub fn new_cluster(part: u32, version: Version) -> Cluster
     ensures { λ r. ⌜ r ≡ newCluster part version ⌝ }
 {
-    let no_version = Version {
-        first: 0,
-        second: 0,
-        third: 0,
-        fourth: 0,
-    };
     let no_need = Need {
         part: 0,
-        least: no_version,
+        least: NO_VERSION,
     };
     let no_needs = [no_need; NEEDS_MOST];
     Cluster {

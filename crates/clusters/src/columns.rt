@@ -1,7 +1,8 @@
 // The part numbers and versions of a table, taken out once: a search passes a column of 256 bytes and not the table.
 use crate::table::CLUSTERS_MOST;
-use crate::table::Found;
 use crate::table::Table;
+use place_in_list::Found;
+use text::version::NO_VERSION;
 use text::version::Version;
 ghost use mathlib.Core.Path.{_≡_};
 ghost use Prim.Native.Nat.{_≤_};
@@ -23,14 +24,8 @@ pub fn columns_of(t: Table) -> Columns
     requires { ⌜ t .count ≤ clustersMost ⌝ }
     ensures { λ r. ⌜ ColumnsOf r (viewTable t) ⌝ }
 {
-    let no_version = Version {
-        first: 0,
-        second: 0,
-        third: 0,
-        fourth: 0,
-    };
     let mut parts = [0u32; CLUSTERS_MOST];
-    let mut versions = [no_version; CLUSTERS_MOST];
+    let mut versions = [NO_VERSION; CLUSTERS_MOST];
     let count = t.count;
     let mut i = 0;
     while i < count {
@@ -52,12 +47,5 @@ pub fn place_of(parts: &[u32; CLUSTERS_MOST], count: usize, part: u32) -> Found
     requires { ⌜ (count ≤ clustersMost) × (length (now parts) ≡ clustersMost) ⌝ }
     ensures { λ r. ⌜ r ≡ placeAmong 0 part (take count (now (parts .entry))) ⌝ }
 {
-    let mut i = 0;
-    while i < count {
-        if part == parts[i] {
-            return Found::At(i);
-        }
-        i += 1;
-    }
-    Found::Nothing
+    place_in_list::place_of(parts, count, part)
 }

@@ -3,12 +3,14 @@ use crate::cluster::Cluster;
 use crate::cluster::Need;
 use crate::cluster::new_cluster;
 use crate::cluster::with_need;
-use text::version::Version;
+use place_in_list::Found;
+use text::version::NO_VERSION;
 ghost use mathlib.Core.Path.{_≡_};
 ghost use Prim.Native.Nat.{_-_, _≤_, _<_};
 ghost use lib.ListN.{getD};
+ghost use Rattle.place_in_list.specs.Place.{foundIn};
 ghost use Rattle.clusters.specs.Cluster.{needsMost};
-ghost use Rattle.clusters.specs.Table.{clustersMost};
+ghost use Rattle.clusters.specs.Table.{find, clustersMost};
 ghost use Rattle.clusters.specs.View.{noCluster, viewTable};
 ghost use Rattle.clusters.specs.Place.{placeOf};
 ghost use Rattle.clusters.specs.Exact.{emptyTable, append, withNeedAtLast};
@@ -22,16 +24,11 @@ pub struct Table {
     pub count: usize,
 }
 
-// A place in a list, or nothing found: of a cluster in a table, of a package among the packages.
-pub enum Found {
-    At(usize),
-    Nothing,
-}
-
 // Where the cluster with a part number stands. The check of the limits of the table meets what is required.
 pub fn find(t: Table, part: u32) -> Found
     requires { ⌜ t .count ≤ clustersMost ⌝ }
-    ensures { λ r. ⌜ r ≡ placeOf part (viewTable t) ⌝ }
+    ensures place { λ r. ⌜ r ≡ placeOf part (viewTable t) ⌝ }
+    ensures found { λ r. ⌜ foundIn (viewTable t) r ≡ find part (viewTable t) ⌝ }
 {
     let count = t.count;
     let mut i = 0;
@@ -49,13 +46,7 @@ pub fn find(t: Table, part: u32) -> Found
 pub fn empty_table() -> Table
     ensures { λ r. ⌜ r ≡ emptyTable ⌝ }
 {
-    let no_version = Version {
-        first: 0,
-        second: 0,
-        third: 0,
-        fourth: 0,
-    };
-    let cleared = new_cluster(0, no_version);
+    let cleared = new_cluster(0, NO_VERSION);
     let clusters = [cleared; CLUSTERS_MOST];
     Table {
         clusters: clusters,

@@ -3,7 +3,7 @@ use areas::deletion::Deletion;
 use areas::deletion::delete_areas;
 use areas::deletion::remaining;
 use areas::lookup::find;
-use clusters::table::Found;
+use place_in_list::Found;
 use refusal::BAD_STATE;
 use refusal::INVALID_TRANSFER_ID;
 use refusal::OPERATION_NOT_PERMITTED;

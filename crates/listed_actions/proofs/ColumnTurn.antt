@@ -12,8 +12,8 @@ use Rattle.base.specs.Refusals.{firstRefusal, numberOrZero}
 use Rattle.base.proofs.Counted.{from-step}
 use Rattle.base.proofs.RefusalNumbers.{zero-passes}
 use Rattle.text.specs.declared.version.Version.{Version}
-use Rattle.clusters.specs.declared.table.Found.{Found}
-use Rattle.clusters.specs.declared.table.Found.the-variants.{At, Nothing}
+use Rattle.place_in_list.specs.declared.Found.{Found}
+use Rattle.place_in_list.specs.declared.Found.the-variants.{At, Nothing}
 use Rattle.clusters.specs.declared.columns.Columns.{Columns}
 use Rattle.clusters.specs.Table.{Table, find}
 use Rattle.clusters.specs.View.{noCluster, viewCluster}

@@ -1,2 +1,3 @@
 pub mod Untouched
 pub mod ColumnTurn
+pub mod Among

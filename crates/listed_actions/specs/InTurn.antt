@@ -5,8 +5,8 @@ use mathlib.Core.Bool.{Bool, true, not, _&&_}
 use mathlib.Core.List.{List, [], _∷_, _++_}
 use Rattle.base.specs.Refusals.{noneApplies}
 use Rattle.text.specs.declared.version.Version.{Version}
-use Rattle.clusters.specs.declared.table.Found.{Found}
-use Rattle.clusters.specs.declared.table.Found.the-variants.{At, Nothing}
+use Rattle.place_in_list.specs.declared.Found.{Found}
+use Rattle.place_in_list.specs.declared.Found.the-variants.{At, Nothing}
 use Rattle.clusters.specs.Table.{Table, find}
 use Rattle.actions.specs.declared.refusals.Staged.{Staged}
 use Rattle.actions.specs.declared.refusals.Staged.the-variants as staged

@@ -1,4 +1,6 @@
 // The transfer ids and part numbers of a session's list, taken out once: a search passes a column and not the entries.
+use place_in_list::Found;
+use place_in_list::place_of;
 use state::limits::ENTRIES_MOST;
 use state::session::Entry;
 ghost use mathlib.Core.Path.{_≡_};
@@ -40,12 +42,8 @@ pub fn is_among(numbers: &[u32; ENTRIES_MOST], count: usize, number: u32) -> boo
     requires { ⌜ (count ≤ entriesMost) × (length (now numbers) ≡ entriesMost) ⌝ }
     ensures { λ r. ⌜ r ≡ isAmong number (take count (now (numbers .entry))) ⌝ }
 {
-    let mut i = 0;
-    while i < count {
-        if number == numbers[i] {
-            return true;
-        }
-        i += 1;
+    match place_of(numbers, count, number) {
+        Found::At(_) => true,
+        Found::Nothing => false,
     }
-    false
 }

@@ -6,7 +6,7 @@ use actions::refusals::Staged;
 use actions::refusals::staged_refusal;
 use clusters::columns::Columns;
 use clusters::columns::place_of;
-use clusters::table::Found;
+use place_in_list::Found;
 use state::limits::ENTRIES_MOST;
 use state::session::Entry;
 use text::version::Version;

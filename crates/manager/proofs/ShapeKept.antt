@@ -10,8 +10,8 @@ use lib.ListN.{length, take, length-append, length-take, length-drop, length-rep
 use borrow.Author.Tests.{leb-false}
 use Rattle.base.specs.Refusals.{firstRefusal}
 use Rattle.base.proofs.Tests.{cond-cases}
-use Rattle.clusters.specs.declared.table.Found.{Found}
-use Rattle.clusters.specs.declared.table.Found.the-variants.{At, Nothing}
+use Rattle.place_in_list.specs.declared.Found.{Found}
+use Rattle.place_in_list.specs.declared.Found.the-variants.{At, Nothing}
 use Rattle.clusters.specs.declared.table.Table.{Table}
 use Rattle.clusters.specs.Table.{needsMet, clustersMost}
 use Rattle.clusters.specs.View.{viewTable}

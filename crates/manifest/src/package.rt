@@ -31,7 +31,7 @@ use rows::columns::package_columns;
 use rows::line::Line;
 use rows::reader::line_at;
 use text::cursor::Cursor;
-use text::version::Version;
+use text::version::NO_VERSION;
 
 pub enum PackageAnswer {
     // The text before the payload is well formed and the payload has its count of bytes.
@@ -56,13 +56,7 @@ pub struct PackageRead {
 fn bare_cluster(part: u32) -> Cluster
     ensures { λ r. ⌜ r ≡ structCluster (record { part = part; version = noVersion; needs = [] }) ⌝ }
 {
-    let no_version = Version {
-        first: 0,
-        second: 0,
-        third: 0,
-        fourth: 0,
-    };
-    new_cluster(part, no_version)
+    new_cluster(part, NO_VERSION)
 }
 
 // An answer with everything beside it cleared.

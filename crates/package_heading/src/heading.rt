@@ -19,6 +19,7 @@ use rows::reader::cell_is_empty;
 use text::cursor::Cursor;
 use text::number::Number;
 use text::number::whole_number;
+use text::version::NO_VERSION;
 use text::version::Version;
 use text::version::VersionRead;
 use text::version::whole_version;
@@ -70,15 +71,9 @@ fn remove_heading(s: &[u8], line: Cursor, columns: PackageColumns, fields: Field
         return HeadingRead::IllFormed;
     }
     if fields.count == 0 {
-        let version = Version {
-            first: 0,
-            second: 0,
-            third: 0,
-            fourth: 0,
-        };
         return HeadingRead::Value(Heading {
             fields: fields,
-            version: version,
+            version: NO_VERSION,
             need: OptionalNeed::Empty,
         });
     }

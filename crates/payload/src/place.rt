@@ -2,8 +2,8 @@
 use areas::lookup::find;
 use areas::reading::answer_refusal;
 use areas::sizes::area_start;
-use clusters::table::Found;
 use manifest::package::read_package;
+use place_in_list::Found;
 use refusal::INVALID_TRANSFER_ID;
 use refusal::WRONG_PACKAGE_STATE;
 use state::package::is_transferring;

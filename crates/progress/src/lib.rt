@@ -3,6 +3,7 @@ use reading_reply::ReadingReply;
 use refusal::BAD_STATE;
 use soundness::sound::sound;
 use state::phase::PROCESSING;
+use state::phase::is_processing;
 use state::phase::phase_number;
 use state::state::State;
 use state::work::Work;
@@ -40,7 +41,7 @@ pub fn progress_on_sound(s: State, store: &[u8]) -> ReadingReply
     ensures { λ r. ⌜ replyOf r ≡ given (progressOf (viewState s .work)) ⌝ }
 {
     let phase = s.phase;
-    if phase_number(phase) != PROCESSING {
+    if !is_processing(phase) {
         return ReadingReply::Given(0);
     }
     let work = s.work;

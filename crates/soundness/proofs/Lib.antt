@@ -6,5 +6,6 @@ pub mod PhaseNumbers
 pub mod Listing
 pub mod ListParts
 pub mod KeptParts
+pub mod ProcessingSize
 pub mod Whole
 pub mod SoundSession

@@ -4,7 +4,7 @@ use Prim.Native.Nat.{ℕ, _+_, _≤_}
 use mathlib.Core.Path.{_≡_, sym, ap, _∙_}
 use mathlib.Core.Bool.{Bool, true, _&&_}
 use lib.Dec.{leb}
-use lib.ListN.{length as listLength}
+use lib.ListN.{length}
 use borrow.Author.Tests.{leb-true}
 use Rattle.base.proofs.Tests.{and-left, and-right}
 use Rattle.model.specs.Areas.{declared}
@@ -15,21 +15,21 @@ use Rattle.state.proofs.Views.{packages-fit}
 use Rattle.soundness.proofs.Order.{limits-first}
 
 abbrev pub withinLimits : Transfers → ℕ → Bool
-withinLimits t length = leb (t .count) packagesMost && (leb length storeMost && (leb 1 (t .next) && leb (t .next) (idMost + 1)))
+withinLimits t storeLength = leb (t .count) packagesMost && (leb storeLength storeMost && (leb 1 (t .next) && leb (t .next) (idMost + 1)))
 
-pub transfers-limits : (t : Transfers) (length : ℕ) → storeSound (viewPackages t) length && transfersSound (viewTransfers t)
-    ≡ withinLimits t length && (packagesRise 0 (t .next) (viewPackages t) && leb (declared (viewPackages t)) length)
+pub transfers-limits : (t : Transfers) (storeLength : ℕ) → storeSound (viewPackages t) storeLength && transfersSound (viewTransfers t)
+    ≡ withinLimits t storeLength && (packagesRise 0 (t .next) (viewPackages t) && leb (declared (viewPackages t)) storeLength)
 unfolding storeSound transfersSound
-transfers-limits t length =
-    limits-first (leb length storeMost) (leb (declared (viewPackages t)) length) (leb (listLength (viewPackages t)) packagesMost) (leb 1 (t .next))
+transfers-limits t storeLength =
+    limits-first (leb storeLength storeMost) (leb (declared (viewPackages t)) storeLength) (leb (length (viewPackages t)) packagesMost) (leb 1 (t .next))
     (leb (t .next) (idMost + 1)) (packagesRise 0 (t .next) (viewPackages t))
-    ∙ ap (λ (few : Bool). (few && (leb length storeMost && (leb 1 (t .next) && leb (t .next) (idMost + 1)))) && (packagesRise 0 (t .next) (viewPackages t) && leb (declared (viewPackages t)) length)) (packages-fit t)
+    ∙ ap (λ (few : Bool). (few && (leb storeLength storeMost && (leb 1 (t .next) && leb (t .next) (idMost + 1)))) && (packagesRise 0 (t .next) (viewPackages t) && leb (declared (viewPackages t)) storeLength)) (packages-fit t)
 
-pub limits-told : (t : Transfers) (length : ℕ) → storeSound (viewPackages t) length && transfersSound (viewTransfers t) ≡ true
+pub limits-told : (t : Transfers) (storeLength : ℕ) → storeSound (viewPackages t) storeLength && transfersSound (viewTransfers t) ≡ true
     → (t .count ≤ packagesMost) × (packagesRise 0 (t .next) (viewPackages t) ≡ true)
-limits-told t length h =
-    let e = sym (transfers-limits t length) ∙ h in
-    let limits = withinLimits t length in (
+limits-told t storeLength h =
+    let e = sym (transfers-limits t storeLength) ∙ h in
+    let limits = withinLimits t storeLength in (
       leb-true _ _ (and-left _ _ (and-left limits _ e)),
       and-left (packagesRise 0 (t .next) (viewPackages t)) _ (and-right limits _ e),
     )

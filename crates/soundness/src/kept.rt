@@ -1,12 +1,13 @@
 // The kept values, with the session that they stand behind.
-use crate::phases::is_processing;
 use crate::session::session_sound;
 use actions::action::Action;
+use areas::lookup::processing_place;
 use checksum::SUM_MOST;
 use clusters::table::Table;
 use state::limits::ENTRIES_MOST;
 use state::package::is_being_processed;
 use state::phase::Phase;
+use state::phase::is_processing;
 use state::session::Entry;
 use state::transfers::Transfers;
 use state::work::Work;
@@ -31,15 +32,10 @@ fn processing_size(t: Transfers) -> u32
     requires { ⌜ (t .count ≤ packagesMost) × (packagesRise 0 (t .next) (viewPackages t) ≡ true) ⌝ }
     ensures { λ r. ⌜ r ≡ packageOf (processingId (viewPackages t)) (viewPackages t) .size ⌝ }
 {
-    let count = t.count;
-    let mut i = 0;
-    while i < count {
+    let i = processing_place(t);
+    if i < t.count {
         let p = t.packages[i];
-        let state = p.state;
-        if is_being_processed(state) {
-            return p.size;
-        }
-        i += 1;
+        return p.size;
     }
     0
 }

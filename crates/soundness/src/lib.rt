@@ -3,6 +3,6 @@ mod counts;
 mod kept;
 mod listed;
 mod packages;
-pub mod phases;
+mod phases;
 mod session;
 pub mod sound;

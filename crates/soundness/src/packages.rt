@@ -34,13 +34,13 @@ fn package_sound(p: Package) -> bool
 
 // Whether the ids rise and are below the next one, each package is sound and its area ends within the store. An area starts within the
 // store, so its end does not wrap. transfers_sound checks before what is required.
-fn packages_rise(t: Transfers, length: usize) -> bool
-    requires { ⌜ (t .count ≤ packagesMost) × (length ≤ storeMost) ⌝ }
-    ensures { λ r. ⌜ r ≡ packagesRise 0 (t .next) (viewPackages t) && leb (declared (viewPackages t)) length ⌝ }
+fn packages_rise(t: Transfers, store_length: usize) -> bool
+    requires { ⌜ (t .count ≤ packagesMost) × («store_length» ≤ storeMost) ⌝ }
+    ensures { λ r. ⌜ r ≡ packagesRise 0 (t .next) (viewPackages t) && leb (declared (viewPackages t)) «store_length» ⌝ }
 {
     let count = t.count;
     let next = t.next;
-    let room = length as u64;
+    let room = store_length as u64;
     let mut start: u64 = 0;
     let mut last: u64 = 0;
     let mut i = 0;
@@ -60,13 +60,13 @@ fn packages_rise(t: Transfers, length: usize) -> bool
 }
 
 // Whether the packages, the next id and the store's length are within their limits, and the areas fit the store.
-pub fn transfers_sound(t: Transfers, length: usize) -> bool
-    ensures { λ r. ⌜ r ≡ storeSound (viewPackages t) length && transfersSound (viewTransfers t) ⌝ }
+pub fn transfers_sound(t: Transfers, store_length: usize) -> bool
+    ensures { λ r. ⌜ r ≡ storeSound (viewPackages t) «store_length» && transfersSound (viewTransfers t) ⌝ }
 {
     let next = t.next;
     if !((t.count <= PACKAGES_MOST)
-        & ((length <= STORE_MOST) & ((1 <= next) & (next <= ID_MOST + 1)))) {
+        & ((store_length <= STORE_MOST) & ((1 <= next) & (next <= ID_MOST + 1)))) {
         return false;
     }
-    packages_rise(t, length)
+    packages_rise(t, store_length)
 }

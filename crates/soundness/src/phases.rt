@@ -12,12 +12,6 @@ ghost use Rattle.model.specs.State.{Entry, isProcessing};
 ghost use Rattle.model.specs.Sound.{listFits};
 ghost use Rattle.state.specs.View.{viewPhase};
 
-pub fn is_processing(phase: Phase) -> bool
-    ensures { λ r. ⌜ r ≡ isProcessing (viewPhase phase) ⌝ }
-{
-    phase_number(phase) == PROCESSING
-}
-
 // Whether the manager's state goes with a number of packages that are Processing and a number of listed entries.
 pub fn phase_fits(phase: Phase, processing: usize, count: usize) -> bool
     ensures { λ r. ⌜ ((listed : List Entry) → length listed ≡ count → r ≡ eqb processing (cond (isProcessing (viewPhase phase)) 1 0) && listFits (viewPhase phase) listed) ⌝ }

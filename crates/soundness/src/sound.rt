@@ -8,11 +8,11 @@ ghost use Rattle.model.specs.Sound.{soundFor};
 ghost use Rattle.state.specs.View.{viewState};
 
 // Whether a state is sound for a store of a length.
-pub fn sound(s: State, length: usize) -> bool
-    ensures { λ r. ⌜ r ≡ soundFor (viewState s) length ⌝ }
+pub fn sound(s: State, store_length: usize) -> bool
+    ensures { λ r. ⌜ r ≡ soundFor (viewState s) «store_length» ⌝ }
 {
     let transfers = s.transfers;
-    if !transfers_sound(transfers, length) {
+    if !transfers_sound(transfers, store_length) {
         return false;
     }
     let phase = s.phase;

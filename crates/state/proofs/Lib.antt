@@ -4,3 +4,6 @@ pub mod Views
 pub mod PackagesAlong
 pub mod Outcomes
 pub mod Ways
+pub mod OnlyInProcessing
+pub mod KeptValues
+pub mod GiveWork

@@ -79,3 +79,6 @@ inPhase phase s = state phase (s .transfers) (s .session) (s .work)
 
 abbrev pub withTransfers : Transfers → State → State
 withTransfers transfers s = state (s .phase) transfers (s .session) (s .work)
+
+abbrev pub withWork : Work → State → State
+withWork work s = state (s .phase) (s .transfers) (s .session) work

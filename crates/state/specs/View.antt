@@ -8,7 +8,7 @@ use Rattle.base.specs.Counted.{counted}
 use Rattle.text.specs.declared.version.Version.{Version}
 use Rattle.actions.specs.declared.action.Change.{Change}
 use Rattle.actions.specs.declared.action.Change.the-variants.{Install, Update, Remove}
-use Rattle.clusters.specs.View.{viewTable}
+use Rattle.clusters.specs.View.{noCluster, viewTable}
 use Rattle.actions.specs.Struct.{clearedAction}
 use Rattle.actions.specs.View.{viewAction}
 use Rattle.model.specs.State as model
@@ -89,6 +89,10 @@ viewEntry e = record { id = e .id; action = viewAction (e .action) }
 
 abbrev pub clearedEntry : Entry
 clearedEntry = record { id = 0; action = clearedAction }
+
+-- what an index past the end of an array of entries reads
+abbrev pub noEntry : Entry
+noEntry = record { id = 0; action = record { change = Install; cluster = noCluster } }
 
 -- the entries that count; a count above the room gives more than there are packages
 abbrev pub viewEntries : Session → List model.Entry

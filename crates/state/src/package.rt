@@ -48,15 +48,15 @@ pub fn in_state(p: Package, state: PackageState) -> Package
 
 // A package after an accepted block of a length. TransferData sees before that the block fits the declared size, which is of 32
 // bits, and that the blocks are at most the bytes received.
-pub fn with_block(p: Package, length: u32) -> Package
-    requires { ⌜ (p .received + length < 4294967296) × (p .blocks + 1 < 4294967296) ⌝ }
-    ensures { λ r. ⌜ r ≡ withBlock length p ⌝ }
+pub fn with_block(p: Package, block_length: u32) -> Package
+    requires { ⌜ (p .received + «block_length» < 4294967296) × (p .blocks + 1 < 4294967296) ⌝ }
+    ensures { λ r. ⌜ r ≡ withBlock «block_length» p ⌝ }
 {
     let state = p.state;
     Package {
         id: p.id,
         size: p.size,
-        received: p.received + length,
+        received: p.received + block_length,
         blocks: p.blocks + 1,
         state: state,
     }

@@ -1,6 +1,6 @@
 // The manager's state.
 ghost use mathlib.Core.Path.{_≡_};
-ghost use Rattle.model.specs.State.{phaseNumber};
+ghost use Rattle.model.specs.State.{phaseNumber, isProcessing};
 ghost use Rattle.state.specs.View.{viewPhase};
 
 // Where RollingBack came from.
@@ -62,4 +62,10 @@ pub fn phase_number(phase: Phase) -> usize
         Phase::RolledBack => ROLLED_BACK,
         Phase::CleaningUp(_) => CLEANING_UP,
     }
+}
+
+pub fn is_processing(phase: Phase) -> bool
+    ensures { λ r. ⌜ r ≡ isProcessing (viewPhase phase) ⌝ }
+{
+    phase_number(phase) == PROCESSING
 }

@@ -8,7 +8,7 @@ use crate::work::Work;
 use crate::work::cleared_work;
 use clusters::table::Table;
 ghost use mathlib.Core.Path.{_≡_};
-ghost use Rattle.state.specs.Exact.{loadedState, inPhase, withTransfers};
+ghost use Rattle.state.specs.Exact.{loadedState, inPhase, withTransfers, withWork};
 
 // The kept values stand beside the phase: a state in another phase is a change of one field.
 pub struct State {
@@ -54,5 +54,14 @@ pub fn with_transfers(s: State, transfers: Transfers) -> State
 {
     let mut changed = s;
     changed.transfers = transfers;
+    changed
+}
+
+// A state with other kept values.
+pub fn with_work(s: State, work: Work) -> State
+    ensures { λ r. ⌜ r ≡ withWork work s ⌝ }
+{
+    let mut changed = s;
+    changed.work = work;
     changed
 }

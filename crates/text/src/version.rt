@@ -13,6 +13,14 @@ pub struct Version {
     pub fourth: u32,
 }
 
+// The version of an unused place: every part 0.
+pub const NO_VERSION: Version = Version {
+    first: 0,
+    second: 0,
+    third: 0,
+    fourth: 0,
+};
+
 // The largest value of a part: the one place in the code that has this limit.
 pub const VERSION_PART_MOST: u32 = 65535;
 

@@ -1,7 +1,7 @@
 // TransferData: a block of bytes is written behind those that its package received so far.
 use areas::lookup::find;
 use areas::sizes::area_start;
-use clusters::table::Found;
+use place_in_list::Found;
 use refusal::BAD_STATE;
 use refusal::INCORRECT_BLOCK;
 use refusal::INCORRECT_SIZE;
@@ -34,9 +34,9 @@ ghost use Rattle.state.specs.Outcome.{outcome, viewOutcome, SoundIfAccepted, ca
 ghost use Rattle.transfer_data.specs.Data.{BlockFits, blockReceivedAt, blockReceived};
 
 // The number of the first of TransferData's own refusals behind 4 that applies, or 0. A sound state meets what is required.
-fn data_refusal(p: Package, counter: u32, length: usize) -> u32
+fn data_refusal(p: Package, counter: u32, block_length: usize) -> u32
     requires { ⌜ p .received ≤ p .size ⌝ }
-    ensures { λ r. ⌜ r ≡ numberOrZero (firstRefusal (dataRefusals (viewPackage p) counter length)) ⌝ }
+    ensures { λ r. ⌜ r ≡ numberOrZero (firstRefusal (dataRefusals (viewPackage p) counter «block_length»)) ⌝ }
 {
     let state = p.state;
     if !is_transferring(state) {
@@ -46,7 +46,7 @@ fn data_refusal(p: Package, counter: u32, length: usize) -> u32
         return INCORRECT_BLOCK;
     }
     let left = p.size - p.received;
-    if (length < 1) | (length > left as usize) {
+    if (block_length < 1) | (block_length > left as usize) {
         return INCORRECT_SIZE;
     }
     0

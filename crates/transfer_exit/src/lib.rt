@@ -2,7 +2,7 @@
 use areas::lookup::find;
 use areas::reading::area_refusal;
 use areas::sizes::area_start;
-use clusters::table::Found;
+use place_in_list::Found;
 use refusal::BAD_STATE;
 use refusal::INSUFFICIENT_DATA;
 use refusal::INVALID_TRANSFER_ID;

@@ -1,5 +1,5 @@
 -- What Work gives on the structs is seen as the model's: choice by choice, with the bytes of the area. Assumes nothing.
-use Prim.Native.Nat.{ℕ, _+_, _≤_}
+use Prim.Native.Nat.{ℕ, _≤_}
 use mathlib.Core.Path.{_≡_, refl, sym, ap, _∙_}
 use mathlib.Core.Bool.{Bool, true, false, cond, and-false}
 use mathlib.Core.List.{List, [], _∷_, _++_}
@@ -35,9 +35,10 @@ use Rattle.state.specs.Outcome.{outcome, answered, replyOf, viewOutcome}
 use Rattle.state.proofs.Views.{view-with-entry}
 use Rattle.soundness.proofs.ListParts.{counted-length}
 use Rattle.areas.specs.Changed.{packageAt}
-use Rattle.package_processing.specs.Processing.{processingPlace, withWork}
-use Rattle.package_processing.proofs.InProcessing.{accepted-in-it, accepted-kept, InProcessing, at-place}
-use Rattle.package_processing.proofs.GiveWork.{view-with-work}
+use Rattle.state.specs.Exact.{withWork}
+use Rattle.areas.specs.Place.{processingPlace}
+use Rattle.areas.proofs.InProcessing.{accepted-in-it, accepted-kept, InProcessing, at-place}
+use Rattle.state.proofs.GiveWork.{view-with-work}
 use Rattle.work_on_payload.specs.Payload.{workOn}
 use Rattle.work_on_payload.specs.Ending.{ended, sumCompared}
 use Rattle.work_on_payload.specs.Work.{areaAt, workedTo, workedAt, worked}

@@ -22,8 +22,9 @@ use Rattle.state.specs.View.{viewPackages, viewPhase, entriesMost, viewState}
 use Rattle.state.specs.Outcome.{outcome, answered}
 use Rattle.soundness.proofs.ListParts.{room-for-all, counted-length}
 use Rattle.areas.proofs.FoundPackage.{count-fits}
-use Rattle.package_processing.specs.Processing.{processingPlace, withWork}
-use Rattle.package_processing.proofs.InProcessing.{InProcessing, one-processing}
+use Rattle.state.specs.Exact.{withWork}
+use Rattle.areas.specs.Place.{processingPlace}
+use Rattle.areas.proofs.InProcessing.{InProcessing, one-processing}
 use Rattle.work_on_payload.specs.Payload.{workOn}
 use Rattle.work_on_payload.specs.Ending.{ended, sumCompared}
 use Rattle.work_on_payload.specs.Work.{areaAt, workedTo, workedAt, worked, WorkFits}

@@ -20,8 +20,8 @@ use Rattle.state.specs.declared.state.State.{State}
 use Rattle.state.specs.declared.answer.Answer.{Answer}
 use Rattle.state.specs.declared.answer.Answered.{Answered}
 use Rattle.state.specs.View.{viewPackages, entriesMost, viewState}
-use Rattle.package_processing.specs.Processing.{processingPlace}
-use Rattle.package_processing.proofs.InProcessing.{accepted-in-it, at-place}
+use Rattle.areas.specs.Place.{processingPlace}
+use Rattle.areas.proofs.InProcessing.{accepted-in-it, at-place}
 use Rattle.work_on_payload.specs.Payload.{workOn}
 use Rattle.work_on_payload.specs.Ending.{ended, sumCompared}
 use Rattle.work_on_payload.specs.Work.{areaAt, workedTo, workedAt, WorkFits}

@@ -14,7 +14,8 @@ use Rattle.state.specs.View.{viewPackages, entriesMost}
 use Rattle.state.specs.Outcome.{Outcome, outcome, answered}
 use Rattle.areas.specs.Inside.{AreaInside}
 use Rattle.areas.specs.Changed.{packageAt}
-use Rattle.package_processing.specs.Processing.{processingPlace, withWork}
+use Rattle.state.specs.Exact.{withWork}
+use Rattle.areas.specs.Place.{processingPlace}
 use Rattle.work_on_payload.specs.Payload.{workOn, PayloadInside}
 use Rattle.work_on_payload.specs.Ending.{ended, sumCompared}
 

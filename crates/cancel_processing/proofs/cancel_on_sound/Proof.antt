@@ -9,7 +9,7 @@ use Rattle.model.specs.Sound.{packagesMost}
 use Rattle.model.specs.Step.{ownRefusals}
 use Rattle.state.proofs.Ways.{ways}
 use Rattle.areas.proofs.FoundPackage.{count-fits}
-use Rattle.package_processing.proofs.InProcessing.{InProcessing, in-processing}
+use Rattle.areas.proofs.InProcessing.{InProcessing, in-processing}
 use Rattle.cancel_processing.proofs.CancelLaws.{other-id, own-id}
 use Rattle.cancel_processing.proofs.cancel_on_sound.Statement.{statement}
 use Rattle.cancel_processing.proofs.cancel_on_sound.Tie as tie

@@ -1,6 +1,6 @@
 -- `cancel_processing::note_cancel` meets its contract: the kept values with the note, in the same state. Assumes nothing.
 use borrow.Author.Needs.{needs}
-use Rattle.package_processing.proofs.GiveWork.{give-work}
+use Rattle.state.proofs.GiveWork.{give-work}
 use Rattle.cancel_processing.proofs.note_cancel.Statement.{statement}
 use Rattle.cancel_processing.proofs.note_cancel.Tie as tie
 

@@ -4,8 +4,8 @@ use Rattle.progress.proofs.KeptProgress.{outside, inside}
 use Rattle.progress.proofs.progress_on_sound.Statement.{statement}
 use Rattle.progress.proofs.progress_on_sound.Tie as tie
 
-phase-number-requires : tie.Need-phase-number-requires
-phase-number-requires c κs = search needs
+is-processing-requires : tie.Need-is-processing-requires
+is-processing-requires c κs = search needs
 
 returns : tie.Need-returns
 returns c = search outside
@@ -18,4 +18,4 @@ returns-2 c = search inside
 
 pub progress-on-sound-spec : {M : Type 1} → statement M
 progress-on-sound-spec =
-    tie.close (tie.spec phase-number-requires returns percentage-requires returns-2)
+    tie.close (tie.spec is-processing-requires returns percentage-requires returns-2)

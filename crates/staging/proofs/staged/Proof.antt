@@ -6,14 +6,11 @@ use mathlib.Core.Path.{_≡_, sym, ap, _∙_}
 use mathlib.Core.List.{List}
 use Prim.Native.Nat.{ℕ, _+_, _-_, _≤_, _<_}
 use lib.ListN.{length, take, drop, getD}
-use Rattle.base.proofs.Counted.{unmapped}
+use Rattle.base.proofs.Counted.{unmapped, seen-step, seen-end}
 use Rattle.clusters.specs.declared.table.Table.{Table}
-use Rattle.clusters.specs.View.{noCluster}
-use Rattle.actions.specs.declared.action.Change.the-variants.{Install}
 use Rattle.actions.specs.Exact.{apply}
-use Rattle.clusters.proofs.Arrays.{seen-step, seen-end}
 use Rattle.state.specs.declared.session.Entry.{Entry}
-use Rattle.state.specs.View.{entriesMost}
+use Rattle.state.specs.View.{entriesMost, noEntry}
 use Rattle.staging.specs.Staged.{stagedFrom, stagedTable}
 use Rattle.staging.proofs.staged.Statement.{statement}
 use Rattle.staging.proofs.staged.Tie as tie
@@ -27,10 +24,6 @@ abbrev μ-loop : tie.MeasureT-loop
 
 long : (c : tie.Start Inv-loop μ-loop) → length (c .args .t1 .entries) ≡ entriesMost
 long c = search (needs, unmapped)
-
--- what is read past an array's end
-abbrev noEntry : Entry
-noEntry = record { id = 0; action = record { change = Install; cluster = noCluster } }
 
 -- one entry more is applied
 next-staged : (table : Table) (n : ℕ) (entries : List Entry) → n ≤ length entries → (i : ℕ) → i < n

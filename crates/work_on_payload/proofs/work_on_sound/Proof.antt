@@ -7,7 +7,7 @@ use Rattle.model.specs.Sound.{packagesMost}
 use Rattle.state.specs.View.{entriesMost}
 use Rattle.state.proofs.Ways.{ways}
 use Rattle.areas.proofs.FoundPackage.{count-fits}
-use Rattle.package_processing.proofs.InProcessing.{in-processing}
+use Rattle.areas.proofs.InProcessing.{in-processing}
 use Rattle.work_on_payload.proofs.WorkLaws.{work-own, work-given, work-fits}
 use Rattle.work_on_payload.proofs.work_on_sound.Statement.{statement}
 use Rattle.work_on_payload.proofs.work_on_sound.Tie as tie

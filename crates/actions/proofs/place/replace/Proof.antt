@@ -7,7 +7,7 @@ use lib.ListN.{length}
 use Rattle.base.proofs.Counted.{unmapped}
 use Rattle.clusters.specs.declared.cluster.Cluster.{Cluster}
 use Rattle.clusters.specs.declared.table.Table.{Table}
-use Rattle.clusters.specs.declared.table.Found.{Found}
+use Rattle.place_in_list.specs.declared.Found.{Found}
 use Rattle.actions.specs.Exact.{replaceAt, replace}
 use Rattle.clusters.proofs.Arrays.{set-put}
 use Rattle.clusters.proofs.Placing.{FoundIn, found-in}
@@ -19,7 +19,7 @@ long c = search (needs, unmapped)
 
 -- where the part number is found: the place counts, and the cluster there is the one found
 found : (c : tie.After-known-told) → (let s = c .before .before .before .before in FoundIn (s .args .c .part) (s .args .t) (c .before .place .given .0 .0))
-found c = found-in _ _ _ (c .before .before .before .before .pre) (sym (c .before .before .before .find .ensures) ∙ c .before .place .given .1)
+found c = found-in _ _ _ (c .before .before .before .before .pre) (sym (c .before .before .before .find .ensures .0) ∙ c .before .place .given .1)
 
 find-requires : tie.Need-find-requires
 find-requires c κs = search needs
@@ -34,7 +34,7 @@ returns : tie.Need-returns
 unfolding replace
 returns c =
     let s = c .before .before .before in
-    ap (λ (f : Found). replaceAt f (s .args .c) (s .args .t)) (sym (sym (c .before .before .find .ensures) ∙ c .enum-told .given .1))
+    ap (λ (f : Found). replaceAt f (s .args .c) (s .args .t)) (sym (sym (c .before .before .find .ensures .0) ∙ c .enum-told .given .1))
 
 mul-clusters : tie.Need-mul-clusters
 mul-clusters c = omega (arith, found (c .before) .below)
@@ -49,7 +49,7 @@ returns-2 c =
     let s = k .before .before .before .before in
     let t = s .args .t in
     ap {B = Table} (λ (clusters : List Cluster). record { clusters = clusters; count = t .count }) (set-put (t .clusters) (k .before .place .given .0 .0) (s .args .c) (omega (arith, found k .below, long s)))
-    ∙ ap (λ (f : Found). replaceAt f (s .args .c) t) (sym (sym (k .before .before .before .find .ensures) ∙ k .before .place .given .1))
+    ∙ ap (λ (f : Found). replaceAt f (s .args .c) t) (sym (sym (k .before .before .before .find .ensures .0) ∙ k .before .place .given .1))
 
 pub replace-spec : {M : Type 1} → statement M
 replace-spec =

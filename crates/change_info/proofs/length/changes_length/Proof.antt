@@ -8,9 +8,9 @@ use borrow.Author.Needs.{needs}
 use Rattle.base.proofs.Counted.{unmapped}
 use Rattle.actions.specs.View.{viewAction}
 use Rattle.model.specs.Reading.{changeLines}
-use Rattle.state.specs.View.{entriesMost}
+use Rattle.state.specs.View.{entriesMost, noEntry}
 use Rattle.change_info.specs.Changes.{changeLine, listedActions, changesText}
-use Rattle.change_info.proofs.ListedLines.{noEntry, lines-over, lines-length-left, text-length-parts}
+use Rattle.change_info.proofs.ListedLines.{lines-over, lines-length-left, text-length-parts}
 use Rattle.change_info.proofs.length.changes_length.Statement.{statement}
 use Rattle.change_info.proofs.length.changes_length.Tie as tie
 

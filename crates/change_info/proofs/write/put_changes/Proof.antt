@@ -10,9 +10,9 @@ use Rattle.base.proofs.Counted.{unmapped}
 use Rattle.text.proofs.Putting.{Putting, putting-begins, putting-room, putting-on, putting-done}
 use Rattle.actions.specs.View.{viewAction}
 use Rattle.model.specs.Reading.{changeLines}
-use Rattle.state.specs.View.{entriesMost}
+use Rattle.state.specs.View.{entriesMost, noEntry}
 use Rattle.change_info.specs.Changes.{changeLine, listedActions}
-use Rattle.change_info.proofs.ListedLines.{noEntry, lines-left, lines-over}
+use Rattle.change_info.proofs.ListedLines.{lines-left, lines-over}
 use Rattle.change_info.proofs.write.put_changes.Statement.{statement}
 use Rattle.change_info.proofs.write.put_changes.Tie as tie
 

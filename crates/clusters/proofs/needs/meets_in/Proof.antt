@@ -5,7 +5,7 @@ use mathlib.Core.Path.{_≡_, sym, ap, _∙_}
 use Prim.Native.Nat.{_<_}
 use lib.ListN.{take}
 use Rattle.text.specs.declared.version.Version.{Version}
-use Rattle.clusters.specs.declared.table.Found.the-variants.{At}
+use Rattle.place_in_list.specs.declared.Found.the-variants.{At}
 use Rattle.clusters.specs.Version.{atOrAbove}
 use Rattle.clusters.specs.View.{noVersion}
 use Rattle.clusters.specs.Place.{placeAmong}

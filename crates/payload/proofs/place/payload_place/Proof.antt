@@ -24,7 +24,7 @@ placed : (c : tie.After-known-told) → (let a = c .before .before .before .befo
 placed c =
     let k = c .before .before .before in
     let s = k .before .before in
-    placed-at (s .args .t1) _ (s .args .id) _ _ (s .pre .0) (long s) (s .pre .1) (k .find .ensures) (c .before .i .given .1)
+    placed-at (s .args .t1) _ (s .args .id) _ _ (s .pre .0) (long s) (s .pre .1) (k .find .ensures .0) (c .before .i .given .1)
 
 find-requires : tie.Need-find-requires
 find-requires c κs = search needs
@@ -39,7 +39,7 @@ no-place-requires : tie.Need-no-place-requires
 no-place-requires c κs = search needs
 
 returns : tie.Need-returns
-returns c s same = unknown-place s _ _ _ same _ (c .no-place .ensures) (nothing-unknown _ _ _ (c .before .before .before .find .ensures) (c .before .enum-told .given .1))
+returns c s same = unknown-place s _ _ _ same _ (c .no-place .ensures) (nothing-unknown _ _ _ (c .before .before .before .find .ensures .0) (c .before .enum-told .given .1))
 
 mul-p : tie.Need-mul-p
 mul-p c = let p = placed c in search needs

@@ -19,25 +19,25 @@ use Rattle.soundness.proofs.packages.packages_rise.Statement.{statement
 use Rattle.soundness.proofs.packages.packages_rise.Tie as tie
 
 abbrev Inv-loop : tie.InvT-loop
-Inv-loop length t count next room start₀ last₀ i₀ start last i =
+Inv-loop storeLength t count next room start₀ last₀ i₀ start last i =
     (i ≤ count)
     × (start ≤ room)
     × (packagesRise 0 next (viewPackages t) && leb (declared (viewPackages t)) room ≡ riseAndFit last next start room (drop i (viewPackages t)))
 
 abbrev μ-loop : tie.MeasureT-loop
-μ-loop length t count next room start₀ last₀ i₀ start last i = count - i
+μ-loop storeLength t count next room start₀ last₀ i₀ start last i = count - i
 
 long : (c : tie.Start Inv-loop μ-loop) → length (c .args .t1 .packages) ≡ packagesMost
 long c = search (needs, unmapped)
 
 step : (c : tie.In-loop Inv-loop μ-loop) → (let a = c .before .before .args in let t = a .t1 in let l = c .before .loop in
-    packagesRise 0 (t .next) (viewPackages t) && leb (declared (viewPackages t)) (a .length)
-    ≡ riseAndFit (l .last) (t .next) (l .start) (a .length) (viewPackage (getD (t .packages) (l .i) clearedPackage) ∷ drop (l .i + 1) (viewPackages t)))
+    packagesRise 0 (t .next) (viewPackages t) && leb (declared (viewPackages t)) (a .store-length)
+    ≡ riseAndFit (l .last) (t .next) (l .start) (a .store-length) (viewPackage (getD (t .packages) (l .i) clearedPackage) ∷ drop (l .i + 1) (viewPackages t)))
 step c =
     let s = c .before .before in
     let l = c .before .loop in
     l .inv .2
-    ∙ ap (riseAndFit (l .last) (s .args .t1 .next) (l .start) (s .args .length)) (packages-step (s .args .t1) (s .pre .0) (long s) (l .i) (omega arith))
+    ∙ ap (riseAndFit (l .last) (s .args .t1 .next) (l .start) (s .args .store-length)) (packages-step (s .args .t1) (s .pre .0) (long s) (l .i) (omega arith))
 
 loop-holds : tie.Need-loop-holds Inv-loop μ-loop
 loop-holds c = (omega arith, omega arith, all-packages _ _ _)
@@ -84,8 +84,8 @@ returns-2 : tie.Need-returns-2 Inv-loop μ-loop
 returns-2 c =
     let s = c .before .before in
     let l = c .before .loop in
-    no-package (l .last) (s .args .t1 .next) (l .start) (s .args .length) (l .inv .1)
-    ∙ sym (l .inv .2 ∙ ap (riseAndFit (l .last) (s .args .t1 .next) (l .start) (s .args .length)) (packages-end (s .args .t1) (s .pre .0) (long s) (l .i) (c .loop-test .left)))
+    no-package (l .last) (s .args .t1 .next) (l .start) (s .args .store-length) (l .inv .1)
+    ∙ sym (l .inv .2 ∙ ap (riseAndFit (l .last) (s .args .t1 .next) (l .start) (s .args .store-length)) (packages-end (s .args .t1) (s .pre .0) (long s) (l .i) (c .loop-test .left)))
 
 pub packages-rise-spec : {M : Type 1} → statement M
 packages-rise-spec =

@@ -17,9 +17,9 @@ add-if1 c = search needs
 returns : tie.Need-returns
 returns c =
     let a = c .before .before .args in
-    and-stop (withinLimits (a .t) (a .length)) _ (not-true _ (c .if1 .taken)) ∙ sym (transfers-limits (a .t) (a .length))
+    and-stop (withinLimits (a .t) (a .store-length)) _ (not-true _ (c .if1 .taken)) ∙ sym (transfers-limits (a .t) (a .store-length))
 
-within : (c : tie.Else1) → (let a = c .before .before .args in withinLimits (a .t) (a .length) ≡ true)
+within : (c : tie.Else1) → (let a = c .before .before .args in withinLimits (a .t) (a .store-length) ≡ true)
 within c = not-false _ (c .if1 .left)
 
 packages-rise-requires : tie.Need-packages-rise-requires
@@ -31,7 +31,7 @@ packages-rise-requires c κs =
 returns-2 : tie.Need-returns-2
 returns-2 c =
     let a = c .before .before .before .args in
-    and-on (withinLimits (a .t) (a .length)) _ _ (within (c .before)) (c .packages-rise .ensures) ∙ sym (transfers-limits (a .t) (a .length))
+    and-on (withinLimits (a .t) (a .store-length)) _ _ (within (c .before)) (c .packages-rise .ensures) ∙ sym (transfers-limits (a .t) (a .store-length))
 
 pub transfers-sound-spec : {M : Type 1} → statement M
 transfers-sound-spec = tie.close (tie.spec add-if1 returns packages-rise-requires returns-2)

@@ -20,25 +20,25 @@ returns : tie.Need-returns
 returns c =
     let k = c .before in
     let a = k .before .before .args in
-    transfers-unsound (a .s) (a .length) (told-no _ _ (k .transfers-sound .ensures) (c .if1 .taken))
+    transfers-unsound (a .s) (a .store-length) (told-no _ _ (k .transfers-sound .ensures) (c .if1 .taken))
 
-checked : (c : tie.Else1) → (let a = c .before .before .before .args in transfersPart (a .s) (a .length) ≡ true)
+checked : (c : tie.Else1) → (let a = c .before .before .before .args in transfersPart (a .s) (a .store-length) ≡ true)
 checked c = told-yes _ _ (c .before .transfers-sound .ensures) (c .if1 .left)
 
 list-sound-requires : tie.Need-list-sound-requires
 list-sound-requires c κs =
     let e = c .before .before in
     let a = e .before .before .before .args in
-    few-packages (a .s) (a .length) (checked e)
+    few-packages (a .s) (a .store-length) (checked e)
 
 returns-2 : tie.Need-returns-2
 returns-2 c =
     let k = c .before in
     let e = k .before .before .before in
     let a = e .before .before .before .args in
-    list-unsound (a .s) (a .length) (checked e) (told-no _ _ (k .list-sound .ensures) (c .if2 .taken))
+    list-unsound (a .s) (a .store-length) (checked e) (told-no _ _ (k .list-sound .ensures) (c .if2 .taken))
 
-listed : (c : tie.Else2) → (let a = c .before .before .before .before .before .before .before .args in listPart (a .s) (a .length) ≡ true)
+listed : (c : tie.Else2) → (let a = c .before .before .before .before .before .before .before .args in listPart (a .s) (a .store-length) ≡ true)
 listed c = told-yes _ _ (c .before .list-sound .ensures) (c .if2 .left)
 
 session-and-kept-sound-requires : tie.Need-session-and-kept-sound-requires
@@ -47,14 +47,14 @@ session-and-kept-sound-requires c κs =
     let e = l .before .before .before .before in
     let s = e .before .before .before in
     let a = s .args in
-    (few-packages (a .s) (a .length) (checked e), rising (a .s) (a .length) (checked e), room-in-list (a .s) (a .length) (checked e) (long s) (listed l))
+    (few-packages (a .s) (a .store-length) (checked e), rising (a .s) (a .store-length) (checked e), room-in-list (a .s) (a .store-length) (checked e) (long s) (listed l))
 
 returns-3 : tie.Need-returns-3
 returns-3 c =
     let l = c .before .before .before in
     let e = l .before .before .before .before in
     let a = e .before .before .before .args in
-    session-decides (a .s) (a .length) (checked e) (listed l) _ (c .session-and-kept-sound .ensures)
+    session-decides (a .s) (a .store-length) (checked e) (listed l) _ (c .session-and-kept-sound .ensures)
 
 pub sound-spec : {M : Type 1} → statement M
 sound-spec =

@@ -6,13 +6,13 @@ use Rattle.model.specs.State as model
 use Rattle.model.specs.State.{Store}
 use Rattle.model.specs.Calls as calls
 use Rattle.model.specs.Step as step
 use Rattle.state.specs.declared.work.Work.{Work}
 use Rattle.state.specs.declared.state.State.{State}
 use Rattle.state.specs.declared.answer.Answer.{Answer}
 use Rattle.state.specs.declared.answer.Answered.{Answered}
 use Rattle.state.specs.View.{viewTransfers, viewPhase, viewSession, isClearedWork, keptWork}
+use Rattle.state.specs.Exact.{withWork}
 use Rattle.state.specs.Outcome.{outcome, answered, replyOf, viewOutcome}
-use Rattle.package_processing.specs.Processing.{withWork}
 
 pub give-work : (answer : Answer) (w w′ : Work) (s s′ : State) (r : Answered) → w′ ≡ w → s′ ≡ withWork w′ s → r ≡ answered answer s′
     → r ≡ answered answer (withWork w s)

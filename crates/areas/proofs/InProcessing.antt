@@ -7,53 +7,34 @@ use mathlib.Core.Option.{none, some}
 use native.Mathlib.Omega.{arith}
 use lib.ListN.{length}
 use Rattle.base.specs.Refusals.{firstRefusal}
-use Rattle.base.proofs.Tests.{bool-cases, clash}
 use Rattle.base.proofs.Ladder.{told-yes}
-use Rattle.clusters.specs.declared.table.Found.the-variants.{At}
+use Rattle.place_in_list.specs.declared.Found.the-variants.{At}
 use Rattle.model.specs.State as model
 use Rattle.model.specs.State.{Store, isProcessing}
 use Rattle.model.specs.Calls.{Call, callNumber}
 use Rattle.model.specs.Areas.{isBeingProcessed, countIn, processingId}
-use Rattle.model.specs.Sound.{packagesMost, keptSound, sound}
+use Rattle.model.specs.Sound.{packagesMost, sound}
 use Rattle.model.specs.Step.{refusals}
 use Rattle.model.proofs.soundness.Accepted.{accepted-sound, accepted-allowed}
 use Rattle.model.proofs.soundness.SoundFacts.{WorkFacts, sound-says}
 use Rattle.model.proofs.soundness.Packages.{found-is, found-id}
 use Rattle.model.proofs.soundness.Counts.{one}
-use Rattle.model.proofs.soundness.KeptValues.{kept-says}
 use Rattle.state.specs.declared.state.State.{State}
-use Rattle.state.specs.declared.work.Work.{Work}
-use Rattle.state.specs.View.{viewPackage, clearedPackage, viewPackages, viewPhase, viewSession, isClearedWork, keptWork, viewWork, viewState}
+use Rattle.state.specs.View.{viewPackage, clearedPackage, viewPackages, viewPhase, viewSession, keptWork, viewWork, viewState}
 use Rattle.state.specs.Permissions.{allowedNumber}
 use Rattle.state.proofs.Permitted.{by-number}
-use Rattle.areas.specs.Place.{placeOf}
+use Rattle.state.proofs.OnlyInProcessing.{column, processingAlone, only-in-processing}
+use Rattle.state.proofs.KeptValues.{kept-there, kept-facts}
+use Rattle.areas.specs.Place.{placeOf, processingPlace}
 use Rattle.areas.specs.Changed.{packageAt}
 use Rattle.areas.proofs.FoundPackage.{FoundAt, found-at}
-use Rattle.package_processing.specs.Processing.{processingPlace}
-use Rattle.package_processing.proofs.OnlyInProcessing.{column, processingAlone, only-in-processing}
-use Rattle.package_processing.proofs.Place.{place-found}
+use Rattle.areas.proofs.ProcessingPlace.{place-found}
 
 -- ---- the kept values
 
--- values that are not cleared are seen as they are
-kept-seen : (w : Work) → isClearedWork w ≡ false → viewWork w ≡ some (keptWork w)
-kept-seen w e = rw e
-
-module _ (s : State) (store : Store) (ok : sound (viewState s) store ≡ true) (in-it : isProcessing (viewPhase (s .phase)) ≡ true) where
-  pub kept-there : viewWork (s .work) ≡ some (keptWork (s .work))
-  unfolding keptSound
-  kept-there =
-      bool-cases (isClearedWork (s .work))
-      (λ e. let h = sound-says (viewState s) store ok .keptValues in clash (rw e at h) (ap not in-it))
-      λ e. kept-seen (s .work) e
-
-  pub kept-facts : WorkFacts (viewSession (s .session)) (viewPackages (s .transfers)) (keptWork (s .work))
-  kept-facts =
-      kept-says (viewPhase (s .phase)) (viewSession (s .session)) (viewPackages (s .transfers)) (keptWork (s .work))
-      (rw kept-there at (sound-says (viewState s) store ok .keptValues))
-
-  pub one-processing : countIn isBeingProcessed (viewPackages (s .transfers)) ≡ 1
-  one-processing = sound-says (viewState s) store ok .processing ∙ ap one in-it
+pub one-processing : (s : State) (store : Store) → sound (viewState s) store ≡ true → isProcessing (viewPhase (s .phase)) ≡ true
+    → countIn isBeingProcessed (viewPackages (s .transfers)) ≡ 1
+one-processing s store ok in-it = sound-says (viewState s) store ok .processing ∙ ap one in-it
 
 -- a call that is allowed in Processing alone and is accepted finds them
 module _ (s : State) (store : Store) (call : Call) (alone : column (callNumber call) ≡ processingAlone) (h : firstRefusal (refusals (viewState s) store call) ≡ none) where

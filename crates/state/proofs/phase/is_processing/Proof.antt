@@ -1,10 +1,10 @@
--- `soundness::phases::is_processing` meets its contract: the number decides. Assumes nothing.
+-- `state::phase::is_processing` meets its contract: the number decides. Assumes nothing.
 use borrow.Author.Needs.{needs}
 use mathlib.Core.Path.{ap}
 use Prim.Native.Nat.{ℕ}
 use lib.Dec.{eqb}
-use Rattle.soundness.proofs.phases.is_processing.Statement.{statement}
-use Rattle.soundness.proofs.phases.is_processing.Tie as tie
+use Rattle.state.proofs.phase.is_processing.Statement.{statement}
+use Rattle.state.proofs.phase.is_processing.Tie as tie
 
 phase-number-requires : tie.Need-phase-number-requires
 phase-number-requires c κs = search needs

@@ -1,4 +1,0 @@
-pub mod OnlyInProcessing
-pub mod Place
-pub mod InProcessing
-pub mod GiveWork

@@ -1,9 +1,8 @@
 -- An action passes 11 to 15 exactly when it is applicable, by the facts that document 01 demands. Assumes nothing.
-use mathlib.Core.Path.{_≡_, refl, sym, _∙_}
-use mathlib.Core.Bool.{Bool, true, false, not, true≢false}
+use mathlib.Core.Path.{_≡_, sym, _∙_}
+use mathlib.Core.Bool.{true, not}
 use mathlib.Core.List.{List}
 use mathlib.Core.Option.{Option, none, some}
-use Prim.Native.Nat.{ℕ}
 use borrow.Author.Tests.{leb-false, lt-leb, not-false}
 use Rattle.base.specs.Refusals.{firstRefusal, noneApplies}
 use Rattle.base.proofs.Refusals.{accepted-none}
@@ -11,17 +10,10 @@ use Rattle.clusters.specs.Version.{above}
 use Rattle.clusters.specs.Cluster.{Cluster}
 use Rattle.clusters.specs.Table.{Table, find}
 use Rattle.actions.specs.Action.{Action, install, update, remove}
-use Rattle.actions.specs.Refusals.{isStaged, clusterPresent, clusterAbsent, oldVersion, tableFull, actionRefusals, passes}
+use Rattle.actions.specs.Refusals.{clusterPresent, clusterAbsent, oldVersion, tableFull, actionRefusals, passes}
+use Rattle.actions.proofs.StagedLaws.{not-staged, staged-is}
 use Rattle.model.specs.Accepted.{Applicable, installs, updates, removes}
 use Rattle.model.proofs.soundness.Accepted.{first-passed, rest-passed}
-
-absent : (found : Option Cluster) → isStaged found ≡ false → found ≡ none
-absent none h = refl
-absent (some c) h = absurd (true≢false h)
-
-staged-one : (found : Option Cluster) → not (isStaged found) ≡ false → (c : Cluster) × (found ≡ some c)
-staged-one none h = absurd (true≢false h)
-staged-one (some c) h = (c, refl)
 
 old-version : (c d : Cluster) (found : Option Cluster) → found ≡ some d → oldVersion found (update c) ≡ not (above (c .version) (d .version))
 unfolding oldVersion
@@ -33,14 +25,14 @@ module _ (onto : Table) (listed : List Action) where
   facts (install c) h =
       let h12 = rest-passed _ _ h in
       let h15 = rest-passed _ _ (rest-passed _ _ (rest-passed _ _ h12)) in
-      installs c (first-passed _ _ h) (absent (find (c .part) onto) (first-passed _ _ h12)) (leb-false _ _ (first-passed _ _ h15))
+      installs c (first-passed _ _ h) (not-staged (find (c .part) onto) (first-passed _ _ h12)) (leb-false _ _ (first-passed _ _ h15))
   facts (update c) h =
       let h13 = rest-passed _ _ (rest-passed _ _ h) in
-      let one = staged-one (find (c .part) onto) (first-passed _ _ h13) in
+      let one = staged-is (find (c .part) onto) (not-false _ (first-passed _ _ h13)) in
       let newer = first-passed _ _ (rest-passed _ _ h13) in
       updates c (one .0) (first-passed _ _ h) (one .1) (not-false _ (sym (old-version c (one .0) (find (c .part) onto) (one .1)) ∙ newer))
   facts (remove part) h =
-      let one = staged-one (find part onto) (first-passed _ _ (rest-passed _ _ (rest-passed _ _ h))) in
+      let one = staged-is (find part onto) (not-false _ (first-passed _ _ (rest-passed _ _ (rest-passed _ _ h)))) in
       removes part (one .0) (first-passed _ _ h) (one .1)
 
   pub passing : (a : Action) → passes onto listed a ≡ true → Applicable onto listed a

@@ -9,7 +9,7 @@ use Rattle.actions.proofs.refusals.staged_in.Tie as tie
 
 -- where the part number is found: the place counts, and the cluster there is the one found
 found : (c : tie.After-known-told) → (let s = c .before .before .before .before in FoundIn (s .args .part) (s .args .t1) (c .before .i .given .0 .0))
-found c = found-in _ _ _ (c .before .before .before .before .pre) (sym (c .before .before .before .find .ensures) ∙ c .before .i .given .1)
+found c = found-in _ _ _ (c .before .before .before .before .pre) (sym (c .before .before .before .find .ensures .0) ∙ c .before .i .given .1)
 
 find-requires : tie.Need-find-requires
 find-requires c κs = search needs
@@ -21,7 +21,7 @@ enum-told : tie.Need-enum-told
 enum-told c = search needs
 
 returns : tie.Need-returns
-returns c = sym (ap stagedAs (nothing-found 0 _ _ (sym (c .before .before .find .ensures) ∙ c .enum-told .given .1)))
+returns c = sym (ap stagedAs (nothing-found 0 _ _ (sym (c .before .before .find .ensures .0) ∙ c .enum-told .given .1)))
 
 mul-cluster : tie.Need-mul-cluster
 mul-cluster c = omega (arith, found c .below)

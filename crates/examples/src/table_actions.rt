@@ -46,7 +46,7 @@ fn act(table: Table, action: Action) {
 
 // An action as word, part number and version, and the list that says the table.
 pub fn action(case: &[u8]) {
-    let ChangeRead::Value(change) = change_of(field(case, 1)) else {
+    let ChangeRead::Value(change, _) = change_of(field(case, 1)) else {
         show::ill_formed();
         return;
     };

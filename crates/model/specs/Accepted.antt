@@ -24,8 +24,8 @@ use Rattle.model.specs.Tables.{staged}
 use Rattle.model.specs.Sound.{packagesMost, idMost}
 use Rattle.model.specs.Step.{Outcome, outcome, areaRead, withPackages, workAtStart, taken, workOn, withCancelNoted, rollbackPhase, changesPackages, endsProcessing, listedWith, cleanedUp}
 
--- an action that is applicable to a staged table after the listed actions. "11. ClusterTouched: .. the session's list has the cluster.":
--- it has not
+-- an action that is applicable to a staged table after the listed actions: none of the refusals 11 to 15 that are quoted beside its case
+-- applies, and "11. ClusterTouched: .. the session's list has the cluster." does not
 pub data Applicable (onto : Table) (listed : List Action) : Action → Type 0 where
   -- "12. ClusterPresent: install of a staged cluster."; "15. TableFull: install with 64 staged."
   installs : (c : Cluster) → touched (c .part) listed ≡ false → tables.find (c .part) onto ≡ none → length onto < clustersMost
@@ -82,6 +82,7 @@ pub data Leaves (s : State) (store : Store) (w : Work) (n : ℕ) : Answer → Ty
       → eqb (sumNumber (workOn w n (areaOf (processingId (s .transfers .packages)) (s .transfers .packages) store) .runningSums)) (w .sum) ≡ false
       → Leaves s store w n calls.inconsistent
 
+-- a call that is accepted, with its outcome. Beside a case stand the refusals that do not apply to it, or what document 01 says of it
 pub data Accepted : State → Store → Call → Outcome → Type 0 where
   -- "7. IncorrectSize: Start with 0"; "16. TransfersFull: Start with 16 packages."; "17. InsufficientMemory: Start with size above the
   -- free bytes."; "18. IdsSpent: Start after 4,294,967,295 was given."

@@ -44,7 +44,7 @@ use Rattle.areas.proofs.FoundPackage.{count-fits, found-at}
 use Rattle.areas.proofs.Kept.{length-kept}
 use Rattle.staging.specs.Staged.{stagedFrom, stagedTable, runsStaged, runningTable}
 use Rattle.work_on_payload.proofs.WorkedRoom.{worked-room}
-use Rattle.report.specs.Reported.{reported}
+use Rattle.report.specs.Reported.{phaseReported}
 use Rattle.manager.specs.Accepts.{accepts, exactStep, Shaped}
 
 -- ---- packages
@@ -95,8 +95,8 @@ module _ (s : State) (store : Store) (shape : Shaped s) where
   with-packages : {phase : Phase} {kept : Work} (t : Transfers) → length (t .packages) ≡ packagesMost → Shaped (state phase t (s .session) kept)
   with-packages t long = record { packages = long; entries = shape .entries; clusters = shape .clusters }
 
-  report-shaped : (phase : Phase) (good : Bool) → Shaped (reported s store phase good .answered .state)
-  unfolding reported
+  report-shaped : (phase : Phase) (good : Bool) → Shaped (phaseReported s store phase good .answered .state)
+  unfolding phaseReported
   report-shaped Activating true =
       cond-cases (λ (given : Answered). Shaped (given .state)) (needsMet (viewTable (stagedTable (s .session)))) _ _ (λ met. same-shape) λ missing. same-shape
   report-shaped Activating false = same-shape

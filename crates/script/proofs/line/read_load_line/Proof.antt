@@ -1,10 +1,10 @@
--- `script::line::load_line` meets its contract, one `let .. else` after the other. Assumes nothing.
+-- `script::line::read_load_line` meets its contract, one `let .. else` after the other. Assumes nothing.
 use borrow.Author.Needs.{needs}
 use Rattle.text.proofs.ThenLaws.{chain}
 use Rattle.script.specs.Line.{loadLine}
 use Rattle.script.proofs.ThenLaws.{block-chain}
-use Rattle.script.proofs.line.load_line.Statement.{statement}
-use Rattle.script.proofs.line.load_line.Tie as tie
+use Rattle.script.proofs.line.read_load_line.Statement.{statement}
+use Rattle.script.proofs.line.read_load_line.Tie as tie
 
 number-word-requires : tie.Need-number-word-requires
 number-word-requires c κs = search needs
@@ -49,8 +49,8 @@ returns-4 : tie.Need-returns-4
 unfolding loadLine
 returns-4 c = search (chain, block-chain) depth 9
 
-pub load-line-spec : {M : Type 1} → statement M
-load-line-spec =
+pub read-load-line-spec : {M : Type 1} → statement M
+read-load-line-spec =
     tie.close
     (tie.spec
     number-word-requires

@@ -1,10 +1,10 @@
--- `script::line::poke_line` meets its contract, one `let .. else` after the other. Assumes nothing.
+-- `script::line::read_poke_line` meets its contract, one `let .. else` after the other. Assumes nothing.
 use borrow.Author.Needs.{needs}
 use Rattle.text.proofs.ThenLaws.{chain}
 use Rattle.script.specs.Line.{pokeLine}
 use Rattle.script.proofs.ThenLaws.{block-chain}
-use Rattle.script.proofs.line.poke_line.Statement.{statement}
-use Rattle.script.proofs.line.poke_line.Tie as tie
+use Rattle.script.proofs.line.read_poke_line.Statement.{statement}
+use Rattle.script.proofs.line.read_poke_line.Tie as tie
 
 number-word-requires : tie.Need-number-word-requires
 number-word-requires c κs = search needs
@@ -36,8 +36,8 @@ returns-3 : tie.Need-returns-3
 unfolding pokeLine
 returns-3 c = search (chain, block-chain) depth 9
 
-pub poke-line-spec : {M : Type 1} → statement M
-poke-line-spec =
+pub read-poke-line-spec : {M : Type 1} → statement M
+read-poke-line-spec =
     tie.close
     (tie.spec
     number-word-requires

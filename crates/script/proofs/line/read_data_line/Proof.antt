@@ -1,10 +1,10 @@
--- `script::line::data_line` meets its contract, one `let .. else` after the other. Assumes nothing.
+-- `script::line::read_data_line` meets its contract, one `let .. else` after the other. Assumes nothing.
 use borrow.Author.Needs.{needs}
 use Rattle.text.proofs.ThenLaws.{chain}
 use Rattle.script.specs.Line.{dataLine}
 use Rattle.script.proofs.ThenLaws.{block-chain}
-use Rattle.script.proofs.line.data_line.Statement.{statement}
-use Rattle.script.proofs.line.data_line.Tie as tie
+use Rattle.script.proofs.line.read_data_line.Statement.{statement}
+use Rattle.script.proofs.line.read_data_line.Tie as tie
 
 number-word-requires : tie.Need-number-word-requires
 number-word-requires c κs = search needs
@@ -49,8 +49,8 @@ returns-4 : tie.Need-returns-4
 unfolding dataLine
 returns-4 c = search (chain, block-chain) depth 9
 
-pub data-line-spec : {M : Type 1} → statement M
-data-line-spec =
+pub read-data-line-spec : {M : Type 1} → statement M
+read-data-line-spec =
     tie.close
     (tie.spec
     number-word-requires

@@ -1,8 +1,8 @@
--- `script_bytes::block::put_block` meets its contract: a law for each form. Assumes nothing.
+-- `script_bytes::block::put_block_bytes` meets its contract: a law for each form. Assumes nothing.
 use borrow.Author.Needs.{needs}
 use Rattle.script_bytes.proofs.BlockLaws.{form-digits, form-typed, digits-fit, typed-fit, blocks}
-use Rattle.script_bytes.proofs.block.put_block.Statement.{statement}
-use Rattle.script_bytes.proofs.block.put_block.Tie as tie
+use Rattle.script_bytes.proofs.block.put_block_bytes.Statement.{statement}
+use Rattle.script_bytes.proofs.block.put_block_bytes.Tie as tie
 
 form-of-requires : tie.Need-form-of-requires
 form-of-requires c κs = search needs
@@ -52,8 +52,8 @@ returns-3 c = search blocks
 returns-4 : tie.Need-returns-4
 returns-4 c = search blocks
 
-pub put-block-spec : {M : Type 1} → statement M
-put-block-spec =
+pub put-block-bytes-spec : {M : Type 1} → statement M
+put-block-bytes-spec =
     tie.close
     (tie.spec
     form-of-requires

@@ -1,8 +1,8 @@
--- `script::line::line_at` meets its contract: a law for each way out. Assumes nothing.
+-- `script::line::script_line_at` meets its contract: a law for each way out. Assumes nothing.
 use borrow.Author.Needs.{needs}
 use Rattle.script.proofs.LineLaws.{line-none, line-remark, line-command}
-use Rattle.script.proofs.line.line_at.Statement.{statement}
-use Rattle.script.proofs.line.line_at.Tie as tie
+use Rattle.script.proofs.line.script_line_at.Statement.{statement}
+use Rattle.script.proofs.line.script_line_at.Tie as tie
 
 returns : tie.Need-returns
 returns c = search line-none
@@ -34,8 +34,8 @@ command-line-requires c κs = search needs
 returns-3 : tie.Need-returns-3
 returns-3 c = search line-command
 
-pub line-at-spec : {M : Type 1} → statement M
-line-at-spec =
+pub script-line-at-spec : {M : Type 1} → statement M
+script-line-at-spec =
     tie.close
     (tie.spec
     returns

@@ -2,7 +2,7 @@
 use Prim.Native.Nat.{ℕ, _+_, _-_, _≤_, _<_}
 use mathlib.Core.Path.{_≡_, refl, ap, _∙_}
 use mathlib.Core.Bool.{true, false}
-use mathlib.Core.List.{List, _++_, append-assoc}
+use mathlib.Core.List.{List, [], _++_}
 use mathlib.Core.Option.{Option, none, some}
 use native.Mathlib.Omega.{arith}
 use lib.ListN.{length, take, drop, length-append}
@@ -11,21 +11,24 @@ use borrow.Author.Tests.{lt-ltb, le-ltb}
 use Rattle.base.proofs.Tests.{or-second}
 use Rattle.text.specs.Put.{Put}
 use Rattle.script.specs.declared.gathered.Gathered.{Gathered}
-use Rattle.script.specs.Gathered.{lineSoFar, withPart}
+use Rattle.script.specs.Gathered.{nothingGathered, lineSoFar, withPart}
 
 -- the line so far, by the two tests
 module _ (g : Gathered) (l : List ℕ) where
-  so-far-too-long : g .«is_too_long» ≡ true → lineSoFar g l ≡ none
+  pub so-far-too-long : g .«is_too_long» ≡ true → lineSoFar g l ≡ none
   unfolding lineSoFar
   so-far-too-long h = rw h
 
-  so-far-past : length l < g .count → lineSoFar g l ≡ none
+  pub so-far-past : length l < g .count → lineSoFar g l ≡ none
   unfolding lineSoFar
   so-far-past h = rw (or-second (g .«is_too_long») _ (lt-ltb _ _ h))
 
-  so-far : g .«is_too_long» ≡ false → g .count ≤ length l → lineSoFar g l ≡ some (take (g .count) l)
+  pub so-far : g .«is_too_long» ≡ false → g .count ≤ length l → lineSoFar g l ≡ some (take (g .count) l)
   unfolding lineSoFar
   so-far f h = rw (f, le-ltb _ _ h)
+
+pub nothing-so-far : (l : List ℕ) → lineSoFar nothingGathered l ≡ some []
+nothing-so-far l = so-far nothingGathered l refl (omega arith)
 
 -- a line that is too long stays so
 stays : (x : Option (List ℕ)) (room : ℕ) (part : List ℕ) → x ≡ none → x ≡ withPart room x part

@@ -1,60 +1,99 @@
--- The first bench, and the store after a line that pokes. Assumes nothing.
-use Prim.Native.Nat.{ℕ, _+_, _-_, _≤_, _<_}
-use mathlib.Core.Path.{_≡_, refl, ap, _∙_}
-use mathlib.Core.Bool.{Bool, true, false, _&&_}
+-- What a line and a part of one leave, from what the functions that are called promise: k is what was kept, r what a function gives back.
+-- Assumes nothing.
+use Prim.Native.Nat.{ℕ, _-_, _≤_, _<_}
+use mathlib.Core.Path.{_≡_, sym, ap, _∙_}
+use mathlib.Core.Bool.{Bool, true, false, not}
 use mathlib.Core.List.{List, []}
+use mathlib.Core.Option.{Option, some}
 use native.Mathlib.Omega.{arith}
-use lib.ListN.{length}
-use borrow.Author.Tests.{lt-ltb, le-ltb}
-use Rattle.text.specs.Put.{Put}
-use Rattle.clusters.specs.declared.table.Table.{Table}
-use Rattle.clusters.specs.Table as clusters
-use Rattle.clusters.specs.View.{viewTable}
-use Rattle.model.specs.Load as model
-use Rattle.model.specs.State as model-state
-use Rattle.model.specs.Sound.{storeSound, transfersSound, soundFor}
-use Rattle.state.specs.declared.state.State.{State}
-use Rattle.state.specs.Exact.{loadedState}
-use Rattle.state.specs.View.{viewState}
-use Rattle.state.proofs.Views.{view-loaded-state}
+use lib.ListN.{length, take}
+use borrow.Author.Tests.{not-true, not-false}
 use Rattle.model.specs.State.{Store}
-use Rattle.model.specs.Step.{Outcome}
-use Rattle.state.specs.declared.answer.Answered.{Answered}
-use Rattle.state.specs.Outcome.{outcome, viewOutcome}
+use Rattle.script.specs.declared.gathered.Gathered.{Gathered}
+use Rattle.script.specs.declared.line.ScriptLine.{ScriptLine}
+use Rattle.script.specs.Gathered.{nothingGathered, lineSoFar, withPart}
+use Rattle.script.specs.Line.{scriptLineAt}
+use Rattle.script.proofs.GatheredLaws.{so-far-too-long, so-far-past, so-far, nothing-so-far}
+use Rattle.script_calls.specs.declared.kept.Kept.{Kept}
+use Rattle.script_calls.specs.declared.kept.Played.{Played}
+use Rattle.script_calls.specs.Kept.{LineOutcome, lineOutcome}
+use Rattle.script_calls.specs.Line.{lineGives}
 use Rattle.replay_bench.specs.declared.bench.Bench.{Bench}
-use Rattle.replay_bench.specs.Bench.{Keeps, Made, poked}
+use Rattle.replay_bench.specs.declared.play.AfterLine.{AfterLine}
+use Rattle.replay_bench.specs.Bench.{benchAfter, lineAfter, Held, held, leaves, afterText, afterLine, afterGathered, between, reading, endsLine, afterLinePart, afterPart}
+use Rattle.replay_bench.proofs.Laws.{part-long}
 
-and-false : (a : Bool) → a && false ≡ false
-and-false true = refl
-and-false false = refl
+-- ---- parts of a line
 
--- a state whose next id is 0 is not sound, whatever the store's length
-no-id : (t : clusters.Table) (n : ℕ) → soundFor (model.loadedState t 0) n ≡ false
-unfolding soundFor transfersSound
-no-id t n = and-false (storeSound [] n)
+-- a line without its last byte, and room for it
+module _ (l : List ℕ) (n : ℕ) (e : n ≡ length l - 1) where
+  pub text-long : n ≡ length (take n l)
+  text-long = part-long l n (omega arith)
 
-pub first-unsound : (t : Table) (s : State) → s ≡ loadedState t 0 → (n : ℕ) → soundFor (viewState s) n ≡ false
-first-unsound t s e n = ap (λ (x : State). soundFor (viewState x) n) e ∙ ap (λ (x : model-state.State). soundFor x n) (view-loaded-state t 0) ∙ no-id (viewTable t) n
+  pub text-room : (m : ℕ) → length l ≤ m → length (take n l) ≤ m
+  text-room m h = omega (arith, text-long)
 
-module _ (store text : List ℕ) (at : ℕ) where
-  pub poke-past : length store < at → store ≡ poked at text store
-  unfolding poked
-  poke-past h = rw (lt-ltb (length store) (at + length text) (omega arith))
+pub part-room : (l : List ℕ) (n m : ℕ) → n ≤ length l → length l ≤ m → length (take n l) ≤ m
+part-room l n m w h = omega (arith, part-long l n w)
 
-  module _ (n : ℕ) (e : n ≡ length text) (within : at ≤ length store) where
-    pub poke-long : length store - at < n → store ≡ poked at text store
-    unfolding poked
-    poke-long h = rw (lt-ltb (length store) (at + length text) (omega arith))
+-- ---- a line
 
-    pub poke-fits : (next : ℕ) (m : List ℕ) → n ≤ length store - at → Put store at text next m → m ≡ poked at text store
-    unfolding poked
-    poke-fits next m h p = p .bytes ∙ rw (le-ltb (length store) (at + length text) (omega arith))
+pub kept-after : (k : Kept) (written : Bool) (r : AfterLine) → r ≡ lineAfter k written → r .kept ≡ k
+kept-after k written r e = ap (λ (a : AfterLine). a .kept) e
 
--- a is what a call answered, w the bench with its state, and b that after the write
-pub call-made : (o : Outcome) (a : Answered) (bytes : Store) (n : ℕ) (w b : Bench) → viewOutcome (outcome a bytes) ≡ o → Keeps (a .state) n w
-    → Keeps (w .state) (w .«store_length») b → Made o n b bytes
-call-made o a bytes n w b e f g = record {
-  state = ap viewState (g .state ∙ f .state) ∙ ap (λ (x : Outcome). x .state) e;
-  store = ap (λ (x : Outcome). x .store) e;
-  long = g .long ∙ f .long;
-}
+pub text-played : (text : List ℕ) (x : ScriptLine) (k : Kept) (bytes after : Store) (p : Played) (r : AfterLine)
+    → x ≡ scriptLineAt text 0 → lineOutcome p after ≡ lineGives text x k bytes → r .kept ≡ p .kept
+    → held (r .kept) after ≡ afterText text (held k bytes)
+unfolding afterText
+text-played text x k bytes after p r f same g =
+    ap (λ (q : Kept). held q after) g ∙ ap leaves (same ∙ ap (λ (y : ScriptLine). lineGives text y k bytes) f)
+
+pub line-played : (line : List ℕ) (n : ℕ) (h g : Held) → n ≡ length line - 1 → g ≡ afterText (take n line) h → g ≡ afterLine line h
+line-played line n h g e same = same ∙ ap (λ (m : ℕ). afterText (take m line) h) e
+
+-- ---- a line that has ended
+
+module _ (g : Gathered) (line : List ℕ) (k : Kept) (bytes : Store) where
+  module _ (written : Bool) (r : AfterLine) (e : r ≡ lineAfter k written) where
+    pub ended-too-long : g .«is_too_long» ≡ true → held (r .kept) bytes ≡ afterGathered (lineSoFar g line) (held k bytes)
+    unfolding afterGathered
+    ended-too-long h = ap (λ (a : AfterLine). held (a .kept) bytes) e ∙ rw (so-far-too-long g line h)
+
+    pub ended-past : length line < g .count → held (r .kept) bytes ≡ afterGathered (lineSoFar g line) (held k bytes)
+    unfolding afterGathered
+    ended-past h = ap (λ (a : AfterLine). held (a .kept) bytes) e ∙ rw (so-far-past g line h)
+
+  pub ended : (h : Held) → g .«is_too_long» ≡ false → g .count ≤ length line → h ≡ afterLine (take (g .count) line) (held k bytes)
+      → h ≡ afterGathered (lineSoFar g line) (held k bytes)
+  unfolding afterGathered
+  ended h f within e = e ∙ rw (so-far g line f within)
+
+  -- ---- a part of a line
+
+  pub part-goes-on : (ends : Bool) (r : Bench) → not ends ≡ true → r ≡ benchAfter k g true
+      → reading r line bytes ≡ afterLinePart ends (lineSoFar g line) (held k bytes)
+  part-goes-on ends r f e = ap (λ (b : Bench). reading b line bytes) e ∙ rw (not-true ends f)
+
+  pub part-ends : (ends : Bool) (after : Store) (a : AfterLine) (empty : Gathered) (r : Bench) → not ends ≡ false
+      → held (a .kept) after ≡ afterGathered (lineSoFar g line) (held k bytes) → empty ≡ nothingGathered
+      → r ≡ benchAfter (a .kept) empty (a .«is_written») → reading r line after ≡ afterLinePart ends (lineSoFar g line) (held k bytes)
+  part-ends ends after a empty r t same z e =
+      let nothing : lineSoFar empty line ≡ some [] = ap (λ (x : Gathered). lineSoFar x line) z ∙ nothing-so-far line in
+      ap (λ (b : Bench). reading b line after) e
+      ∙ ap (λ (l : Option (List ℕ)). between (held (a .kept) after) l) nothing
+      ∙ ap (λ (h : Held). between h (some [])) same
+      ∙ rw (not-false ends t)
+
+pub part-taken : (b : Bench) (line part : List ℕ) (bytes : Store) (g : Gathered) (line′ : List ℕ) (after : Store) (ends : Bool) (r : Bench)
+    → lineSoFar g line′ ≡ withPart (length line) (lineSoFar (b .gathered) line) part → ends ≡ endsLine part
+    → reading r line′ after ≡ afterLinePart ends (lineSoFar g line′) (held (b .kept) bytes)
+    → reading r line′ after ≡ afterPart (length line) part (reading b line bytes)
+unfolding afterPart
+part-taken b line part bytes g line′ after ends r e f same =
+    same
+    ∙ ap (λ (l : Option (List ℕ)). afterLinePart ends l (held (b .kept) bytes)) e
+    ∙ ap (λ (t : Bool). afterLinePart t (withPart (length line) (lineSoFar (b .gathered) line) part) (held (b .kept) bytes)) f
+
+-- a test that is made as `if !b` and passed
+pub goes : (t : Bool) → not t ≡ false → t ≡ true
+goes t e = not-false t e

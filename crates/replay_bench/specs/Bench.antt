@@ -1,58 +1,81 @@
--- What the program keeps from line to line.
-use Prim.Native.Nat.{ℕ, _+_}
+-- What the program holds from line to line, and what the bytes of the input make of it.
+use Prim.Native.Nat.{ℕ, _-_}
 use mathlib.Core.Path.{_≡_}
-use mathlib.Core.Bool.{Bool, true, false, cond}
-use mathlib.Core.List.{List}
-use lib.Dec.{ltb}
-use lib.ListN.{length}
-use lib.Seq.{sets}
+use mathlib.Core.Bool.{Bool, true, cond}
+use mathlib.Core.List.{List, []}
+use mathlib.Core.Option.{Option, none, some}
+use lib.Dec.{eqb}
+use lib.ListN.{length, take, getD}
+use Rattle.base.specs.Quoted.{LF}
 use Rattle.model.specs.State.{Store}
-use Rattle.model.specs.Sound.{soundFor}
-use Rattle.model.specs.Step.{Outcome}
-use Rattle.state.specs.declared.answer.Answer.{Answer}
-use Rattle.state.specs.declared.answer.Answer.the-variants.{Id, Done, Working, Processed, Cancelled, Inconsistent, PreActivationFailed, MissingDependencies, VerificationFailed, NotAbleToRollback, NotAbleToRevert, CleaningFailed, Refused}
-use Rattle.state.specs.declared.state.State.{State}
-use Rattle.state.specs.View.{viewState}
+use Rattle.script.specs.declared.gathered.Gathered.{Gathered}
+use Rattle.script.specs.Gathered.{nothingGathered, lineSoFar, withPart}
+use Rattle.script.specs.Line.{scriptLineAt}
+use Rattle.script_calls.specs.declared.kept.Kept.{Kept}
+use Rattle.script_calls.specs.Kept.{NothingLoaded, LineOutcome}
+use Rattle.script_calls.specs.Line.{lineGives}
 use Rattle.replay_bench.specs.declared.bench.Bench.{Bench}
+use Rattle.replay_bench.specs.declared.play.AfterLine.{AfterLine}
 
--- "Until the first accepted Load the program holds a state that is not sound, and a store of no bytes."
-pub record NothingLoaded (b : Bench) : Type 0 where
-  pub unsound : (n : ℕ) → soundFor (viewState (b .state)) n ≡ false
-  pub no-bytes : b .«store_length» ≡ 0
+-- the bench before the first read
+pub record NothingRead (b : Bench) : Type 0 where
+  pub loaded : NothingLoaded (b .kept)
+  pub gathered : b .gathered ≡ nothingGathered
+  pub goes : b .«goes_on» ≡ true
 
--- the bench holds the state and the length of the store
-pub record Keeps (s : State) (n : ℕ) (b : Bench) : Type 0 where
-  pub state : b .state ≡ s
-  pub long : b .«store_length» ≡ n
+-- the bench after a line or a part of one: it goes on where all was written
+abbrev pub benchAfter : Kept → Gathered → Bool → Bench
+benchAfter k g written = record { kept = k; gathered = g; «goes_on» = written }
 
--- state and store are those that a call gives, and the store is as long as it was
-pub record Made (o : Outcome) (n : ℕ) (b : Bench) (bytes : Store) : Type 0 where
-  pub state : viewState (b .state) ≡ o .state
-  pub store : bytes ≡ o .store
-  pub long : b .«store_length» ≡ n
+-- what is kept after a line, and whether its answer was written
+abbrev pub lineAfter : Kept → Bool → AfterLine
+lineAfter k written = record { kept = k; «is_written» = written }
 
-abbrev pub isRefusal : Answer → Bool
-isRefusal (Id id) = false
-isRefusal Done = false
-isRefusal Working = false
-isRefusal Processed = false
-isRefusal Cancelled = false
-isRefusal Inconsistent = false
-isRefusal PreActivationFailed = false
-isRefusal MissingDependencies = false
-isRefusal VerificationFailed = false
-isRefusal NotAbleToRollback = false
-isRefusal NotAbleToRevert = false
-isRefusal CleaningFailed = false
-isRefusal (Refused number) = true
+-- what the program holds: what is kept from line to line, and all the bytes of its store
+pub record Held : Type 0 where
+  pub kept : Kept
+  pub bytes : Store
 
--- "A refused Load leaves the state and the store that were there before it.": the state, and the length of the store
-abbrev pub stateThen : Answer → State → State → State
-stateThen a before loaded = cond (isRefusal a) before loaded
+abbrev pub held : Kept → Store → Held
+held k bytes = record { kept = k; bytes = bytes }
 
-abbrev pub lengthThen : Answer → ℕ → ℕ → ℕ
-lengthThen a before loaded = cond (isRefusal a) before loaded
+-- what a line leaves
+abbrev pub leaves : LineOutcome → Held
+leaves o = held (o .played .kept) (o .bytes)
 
--- "another writer puts the bytes into the store at `AT`"; "`poke` that does not fit the store whole is `unknown`", and nothing changes
-unfoldable pub poked : ℕ → List ℕ → List ℕ → List ℕ
-poked at text store = cond (ltb (length store) (at + length text)) store (sets store at text)
+-- after a line without its LF: what it reads as is what it gives
+unfoldable pub afterText : List ℕ → Held → Held
+afterText text h = leaves (lineGives text (scriptLineAt text 0) (h .kept) (h .bytes))
+
+-- after a line: "One call to a line, every line ends in LF"
+abbrev pub afterLine : List ℕ → Held → Held
+afterLine line h = afterText (take (length line - 1) line) h
+
+-- after a line that has ended: "a line that is too long gives one `unknown`", and nothing changes
+unfoldable pub afterGathered : Option (List ℕ) → Held → Held
+afterGathered none h = h
+afterGathered (some line) h = afterLine line h
+
+-- the program between two parts of the input: what it holds, and the line that is being gathered
+pub record Reading : Type 0 where
+  pub holds : Held
+  pub line : Option (List ℕ)
+
+abbrev pub between : Held → Option (List ℕ) → Reading
+between h line = record { holds = h; line = line }
+
+abbrev pub reading : Bench → List ℕ → Store → Reading
+reading b line bytes = between (held (b .kept) bytes) (lineSoFar (b .gathered) line)
+
+-- whether a part of the input ends a line
+abbrev pub endsLine : List ℕ → Bool
+endsLine part = eqb (getD part (length part - 1) 0) LF
+
+-- after a part of a line, which has ended or not
+abbrev pub afterLinePart : Bool → Option (List ℕ) → Held → Reading
+afterLinePart ended line h =
+    cond ended (between (afterGathered line h) (some [])) (between h line)
+
+-- after a part of the input that has no LF but its last byte, with so much room for a line
+unfoldable pub afterPart : ℕ → List ℕ → Reading → Reading
+afterPart room part r = afterLinePart (endsLine part) (withPart room (r .line) part) (r .holds)

@@ -1,80 +1,85 @@
-// Lines gathered from the input.
+// The lines of the input, which comes in parts.
+ghost use mathlib.Core.Path.{_≡_};
+ghost use mathlib.Core.Bool.{true};
 ghost use Prim.Native.Nat.{_≤_, _<_};
 ghost use lib.ListN.{length};
+ghost use Rattle.script.specs.Gathered.{lineSoFar};
+ghost use Rattle.replay_bench.specs.Bench.{held, afterGathered, reading, endsLine, afterLinePart, afterPart};
 use crate::bench::Bench;
-use crate::bench::Gathered;
-use crate::bench::after_write;
-use crate::bench::nothing_gathered;
-use crate::bench::with_gathered;
+use crate::bench::bench_after;
+use crate::play::AfterLine;
+use crate::play::after_line;
 use crate::play::play_line;
 use crate::show::show_unknown;
-use text::write::put_bytes;
+use script::gathered::Gathered;
+use script::gathered::gather;
+use script::gathered::nothing_gathered;
+use script_calls::kept::Kept;
 
-// A part of a line behind what is gathered.
-fn gather(line: &mut [u8], gathered: Gathered, part: &[u8]) -> Gathered {
-    let length = gathered.length;
-    if gathered.is_too_long {
-        return gathered;
-    }
-    if line.len() < length {
-        return gathered;
-    }
-    if line.len() - length < part.len() {
-        return Gathered {
-            length: length,
-            is_too_long: true,
-        };
-    }
-    let end = put_bytes(line, length, part);
-    Gathered {
-        length: end,
-        is_too_long: false,
-    }
-}
-
-// The answer to a line that has ended.
+// The answer to a line that has ended. `read_all` has a buffer that is as long as that of the line; so below.
 fn end_line(
-    bench: Bench,
-    store: &mut [u8],
+    kept: Kept,
+    bytes: &mut [u8],
     gathered: Gathered,
     line: &[u8],
     buffer: &mut [u8],
-) -> Bench {
-    let length = gathered.length;
+) -> AfterLine
+    requires { ⌜ length (now line) ≤ length (now buffer) ⌝ }
+    ensures { λ r. ⌜ held (r .kept) (now (bytes .exit)) ≡ afterGathered (lineSoFar gathered (now (line .entry))) (held kept (now (bytes .entry))) ⌝ }
+{
+    let count = gathered.count;
     if gathered.is_too_long {
-        return after_write(bench, show_unknown());
+        return after_line(kept, show_unknown());
     }
-    if length < 1 {
-        return bench;
+    if line.len() < count {
+        return after_line(kept, show_unknown());
     }
-    if line.len() < length {
-        return bench;
-    }
-    play_line(bench, store, &line[..length], buffer)
+    play_line(kept, bytes, &line[..count], buffer)
 }
 
-// A part of the input up to the next LF, or up to its end; `behind_line` gives one with a byte.
+// Whether a part ends a line; `take_part` has one with a byte.
+fn ends_line(part: &[u8]) -> bool
+    requires { ⌜ 1 ≤ length (now part) ⌝ }
+    ensures { λ r. ⌜ r ≡ endsLine (now (part .entry)) ⌝ }
+{
+    part[part.len() - 1] == b'\n'
+}
+
+// The bench with what is gathered of a line, which is answered where it has ended.
+fn answer_part(
+    kept: Kept,
+    bytes: &mut [u8],
+    gathered: Gathered,
+    has_ended: bool,
+    line: &[u8],
+    buffer: &mut [u8],
+) -> Bench
+    requires { ⌜ length (now line) ≤ length (now buffer) ⌝ }
+    ensures { λ r. ⌜ reading r (now (line .entry)) (now (bytes .exit)) ≡ afterLinePart «has_ended» (lineSoFar gathered (now (line .entry))) (held kept (now (bytes .entry))) ⌝ }
+{
+    if !has_ended {
+        return bench_after(kept, gathered, true);
+    }
+    let after = end_line(kept, bytes, gathered, line, buffer);
+    let next = after.kept;
+    bench_after(next, nothing_gathered(), after.is_written)
+}
+
+// A part of the input up to the next LF, or up to its end; `behind_line` gives one with a byte. No line is played once the program ends.
 fn take_part(
     bench: Bench,
-    store: &mut [u8],
+    bytes: &mut [u8],
     line: &mut [u8],
     part: &[u8],
     buffer: &mut [u8],
 ) -> Bench
-    requires { ⌜ 1 ≤ length (now part) ⌝ }
+    requires { ⌜ (1 ≤ length (now part)) × (length (now line) ≤ length (now buffer)) × (bench .«goes_on» ≡ true) ⌝ }
+    ensures { λ r. ⌜ reading r (now (line .exit)) (now (bytes .exit)) ≡ afterPart (length (now (line .entry))) (now (part .entry)) (reading bench (now (line .entry)) (now (bytes .entry))) ⌝ }
 {
     let before = bench.gathered;
     let gathered = gather(line, before, part);
-    if part[part.len() - 1] != b'\n' {
-        return with_gathered(bench, gathered);
-    }
-    end_line(
-        with_gathered(bench, nothing_gathered()),
-        store,
-        gathered,
-        line,
-        buffer,
-    )
+    let kept = bench.kept;
+    answer_part(kept, bytes, gathered, ends_line(part), line, buffer)
 }
 
 // The position behind the next LF, or the end. `take_lines` gives a position within the input.
@@ -92,11 +97,13 @@ fn behind_line(input: &[u8], at: usize) -> usize
 // Every line of a part of the input, and what is left behind the last.
 pub fn take_lines(
     bench: Bench,
-    store: &mut [u8],
+    bytes: &mut [u8],
     line: &mut [u8],
     input: &[u8],
     buffer: &mut [u8],
-) -> Bench {
+) -> Bench
+    requires { ⌜ length (now line) ≤ length (now buffer) ⌝ }
+{
     let mut now = bench;
     let mut at = 0;
     while at < input.len() {
@@ -104,7 +111,7 @@ pub fn take_lines(
             return now;
         }
         let end = behind_line(input, at);
-        now = take_part(now, store, line, &input[at..end], buffer);
+        now = take_part(now, bytes, line, &input[at..end], buffer);
         at = end;
     }
     now
@@ -113,7 +120,7 @@ pub fn take_lines(
 // At the end of the input a line without LF is `unknown`.
 pub fn take_end(bench: Bench) {
     let gathered = bench.gathered;
-    if gathered.is_too_long | (0 < gathered.length) {
+    if gathered.is_too_long | (0 < gathered.count) {
         show_unknown();
     }
 }

@@ -1,70 +1,106 @@
-// One line of the script.
-ghost use Prim.Native.Nat.{_≤_};
+// One line of the script: played, and answered.
+ghost use mathlib.Core.Path.{_≡_};
+ghost use Prim.Native.Nat.{_-_, _≤_};
 ghost use lib.ListN.{length};
-use crate::bench::Bench;
-use crate::bench::after_write;
-use crate::call::call_line;
-use crate::call::data_line;
-use crate::call::load_line;
-use crate::call::poke_line;
+ghost use Rattle.replay_bench.specs.Bench.{held, lineAfter, afterText, afterLine};
 use crate::reading::reading_line;
+use crate::show::show_answer;
 use crate::show::show_text;
-use request::Request;
-use script::line::Line;
-use script::line::line_at;
-use script::place::part_at;
+use crate::show::show_unknown;
+use script::line::ScriptLine;
+use script::line::script_line_at;
+use script_calls::kept::Kept;
+use script_calls::kept::LineAnswer;
+use script_calls::kept::Played;
+use script_calls::lent::lent;
+use script_calls::play::play;
+use state::state::State;
 use text::cursor::Cursor;
 
-// How many bytes of the program's store are lent: never more than it has.
-fn lent(length: usize, room: usize) -> usize
-    ensures { λ r. ⌜ r ≤ room ⌝ }
-{
-    if room < length {
-        return room;
-    }
-    length
+// What is kept after a line, and whether its answer was written.
+pub struct AfterLine {
+    pub kept: Kept,
+    pub is_written: bool,
 }
 
-// A line by what it reads as, on the part of the store that is lent.
-fn play_read(bench: Bench, store: &mut [u8], text: &[u8], line: Line, buffer: &mut [u8]) -> Bench {
-    match line {
-        Line::Data { id, counter, block } => data_line(
-            bench,
-            store,
-            Request::TransferData(id, counter),
-            part_at(text, block),
-            buffer,
-        ),
-        Line::Call(request) => call_line(bench, store, request, &buffer[..0]),
-        Line::Poke { at, bytes } => poke_line(bench, store, at, part_at(text, bytes)),
-        _ => {
-            let s = bench.state;
-            after_write(bench, reading_line(s, store, line, buffer))
+// The answer to a line that changes nothing, on the part of the program's bytes that is lent.
+fn show_reading(s: State, store: &[u8], read: ScriptLine, line: &[u8], buffer: &mut [u8]) -> bool {
+    if let ScriptLine::Remark = read {
+        return show_text(line);
+    }
+    reading_line(s, store, read, buffer)
+}
+
+// The answer to a line.
+fn show_line_answer(
+    answer: LineAnswer,
+    kept: Kept,
+    bytes: &[u8],
+    read: ScriptLine,
+    line: &[u8],
+    buffer: &mut [u8],
+) -> bool {
+    match answer {
+        LineAnswer::Answer(given) => show_answer(given),
+        LineAnswer::Unknown => show_unknown(),
+        LineAnswer::Shown => {
+            let s = kept.state;
+            let count = lent(kept.store_length, bytes.len());
+            show_reading(s, &bytes[..count], read, line, buffer)
         }
     }
 }
 
-// A line without its LF. Load alone sees more of the program's store than is lent.
-fn play_text(bench: Bench, store: &mut [u8], text: &[u8], line: Line, buffer: &mut [u8]) -> Bench {
-    if let Line::Load {
-        first,
-        store: size,
-        list,
-    } = line {
-        return load_line(bench, store, first, size, part_at(text, list), buffer);
+pub fn after_line(kept: Kept, is_written: bool) -> AfterLine
+    ensures { λ r. ⌜ r ≡ lineAfter kept «is_written» ⌝ }
+{
+    AfterLine {
+        kept: kept,
+        is_written: is_written,
     }
-    let length = lent(bench.store_length, store.len());
-    play_read(bench, &mut store[..length], text, line, buffer)
 }
 
-// A line with its LF, which `end_line` has seen to be there. A remark is written as it stands.
-pub fn play_line(bench: Bench, store: &mut [u8], line: &[u8], buffer: &mut [u8]) -> Bench
-    requires { ⌜ 1 ≤ length (now line) ⌝ }
+// The answer to a line that was played is written.
+fn answer_played(
+    played: Played,
+    bytes: &[u8],
+    read: ScriptLine,
+    line: &[u8],
+    buffer: &mut [u8],
+) -> AfterLine
+    ensures { λ r. ⌜ r .kept ≡ played .kept ⌝ }
 {
-    let text = &line[..line.len() - 1];
-    let read = line_at(text, Cursor { at: 0 });
-    if let Line::Remark = read {
-        return after_write(bench, show_text(line));
+    let answer = played.answer;
+    let kept = played.kept;
+    let is_written = show_line_answer(answer, kept, bytes, read, line, buffer);
+    after_line(kept, is_written)
+}
+
+// A line without its LF, and with it. `end_line` has a buffer that is as long as the line; so below.
+fn play_text(kept: Kept, bytes: &mut [u8], text: &[u8], line: &[u8], buffer: &mut [u8]) -> AfterLine
+    requires { ⌜ length (now text) ≤ length (now buffer) ⌝ }
+    ensures { λ r. ⌜ held (r .kept) (now (bytes .exit)) ≡ afterText (now (text .entry)) (held kept (now (bytes .entry))) ⌝ }
+{
+    let read = script_line_at(text, Cursor { at: 0 });
+    let played = play(kept, bytes, text, read, buffer);
+    answer_played(played, bytes, read, line, buffer)
+}
+
+// How many bytes a line has before its LF.
+fn text_length(count: usize) -> usize
+    ensures { λ r. ⌜ r ≡ count - 1 ⌝ }
+{
+    if count < 1 {
+        return 0;
     }
-    play_text(bench, store, text, read, buffer)
+    count - 1
+}
+
+// A line with its LF.
+pub fn play_line(kept: Kept, bytes: &mut [u8], line: &[u8], buffer: &mut [u8]) -> AfterLine
+    requires { ⌜ length (now line) ≤ length (now buffer) ⌝ }
+    ensures { λ r. ⌜ held (r .kept) (now (bytes .exit)) ≡ afterLine (now (line .entry)) (held kept (now (bytes .entry))) ⌝ }
+{
+    let end = text_length(line.len());
+    play_text(kept, bytes, &line[..end], line, buffer)
 }

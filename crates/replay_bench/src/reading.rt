@@ -14,7 +14,7 @@ use payload::payload;
 use payload::payload_check;
 use progress::progress;
 use reading_reply::ReadingReply;
-use script::line::Line;
+use script::line::ScriptLine;
 use state::answer::Answer;
 use state::state::State;
 
@@ -78,15 +78,15 @@ fn changes_line(s: State, store: &[u8], room: u32, buffer: &mut [u8]) -> bool {
 }
 
 // A line of a reading call, or the one that shows the store. Any other is `unknown`.
-pub fn reading_line(s: State, store: &[u8], line: Line, buffer: &mut [u8]) -> bool {
+pub fn reading_line(s: State, store: &[u8], line: ScriptLine, buffer: &mut [u8]) -> bool {
     match line {
-        Line::Packages { room } => show_packages(packages_by_value(s, store, room as usize)),
-        Line::Clusters { room } => clusters_line(s, store, room, buffer),
-        Line::Changes { room } => changes_line(s, store, room, buffer),
-        Line::Payload { id } => show_bytes(b"payload ", payload(s, store, id)),
-        Line::Check { id } => show_number(b"check ", payload_check(s, store, id)),
-        Line::Progress => show_reply(b"progress ", progress(s, store)),
-        Line::Store => show_bytes(b"store ", store),
+        ScriptLine::Packages { room } => show_packages(packages_by_value(s, store, room as usize)),
+        ScriptLine::Clusters { room } => clusters_line(s, store, room, buffer),
+        ScriptLine::Changes { room } => changes_line(s, store, room, buffer),
+        ScriptLine::Payload { id } => show_bytes(b"payload ", payload(s, store, id)),
+        ScriptLine::Check { id } => show_number(b"check ", payload_check(s, store, id)),
+        ScriptLine::Progress => show_reply(b"progress ", progress(s, store)),
+        ScriptLine::Store => show_bytes(b"store ", store),
         _ => show_unknown(),
     }
 }

@@ -43,12 +43,12 @@ fn show_part(part: &[u8]) -> bool
 }
 
 // The end of the part that begins at a position. `show_digits` gives a position within the bytes.
-fn part_end(at: usize, length: usize) -> usize
-    requires { ⌜ at < length ⌝ }
-    ensures { λ r. ⌜ (at < r) × (r ≤ length) × (r ≤ at + 32768) ⌝ }
+fn part_end(at: usize, count: usize) -> usize
+    requires { ⌜ at < count ⌝ }
+    ensures { λ r. ⌜ (at < r) × (r ≤ count) × (r ≤ at + 32768) ⌝ }
 {
-    if length - at <= PART {
-        return length;
+    if count - at <= PART {
+        return count;
     }
     at + PART
 }

@@ -3,18 +3,20 @@ use Prim.Native.Nat.{ℕ}
 use Prim.Native.String.{String}
 use mathlib.Core.Path.{refl}
 use mathlib.Core.Bool.{true, false}
-use mathlib.Core.List.{[], _∷_}
+use mathlib.Core.List.{List, [], _∷_}
+use mathlib.Core.Option.{none, some}
 use Rattle.base.specs.Quoted.{bytes}
 use Rattle.base.proofs.Tables.{_gives_, AllHold}
 use Rattle.request.specs.declared.Request.the-variants as call
-use Rattle.script.specs.declared.line.Line.{Line}
-use Rattle.script.specs.declared.line.Line.the-variants as line
+use Rattle.script.specs.declared.line.ScriptLine.{ScriptLine}
+use Rattle.script.specs.declared.line.ScriptLine.the-variants as line
+use Rattle.script.specs.Gathered.{nothingGathered, lineSoFar, withPart}
 use Rattle.script.specs.Place.{place}
-use Rattle.script.specs.Line.{lineAt}
+use Rattle.script.specs.Line.{scriptLineAt}
 use Rattle.script.specs.Open.{computing}
 
-abbrev lineOf : String → Line
-lineOf s = lineAt (bytes s) 0
+abbrev lineOf : String → ScriptLine
+lineOf s = scriptLineAt (bytes s) 0
 
 -- each line of the table
 lines-computed : AllHold lineOf
@@ -96,7 +98,22 @@ unfolding computing
 unknown-computed = refl
 
 -- a line behind other text
-prefix-computed : AllHold (λ (at : ℕ). lineAt (bytes "7 data 1 2 =a") at)
+prefix-computed : AllHold (λ (at : ℕ). scriptLineAt (bytes "7 data 1 2 =a") at)
     (2 gives line.Data 1 2 (place 11 13) ∷ 0 gives line.Unknown ∷ 13 gives line.Unknown ∷ 14 gives line.Unknown ∷ [])
 unfolding computing
 prefix-computed = refl
+
+-- "a line is at most 262,144 bytes with its LF": a part that fills the room, one byte more, and what is too long already
+gathered-computed : AllHold (λ (part : List ℕ). withPart 4 (some (bytes "ab")) part)
+    (bytes "cd" gives some (bytes "abcd") ∷ bytes "cde" gives none ∷ [] gives some (bytes "ab") ∷ [])
+unfolding computing
+gathered-computed = refl
+
+too-long-computed : AllHold (λ (part : List ℕ). withPart 4 none part) ([] gives none ∷ bytes "a" gives none ∷ [])
+unfolding computing
+too-long-computed = refl
+
+-- nothing gathered is a line of no bytes, whatever the buffer holds
+nothing-computed : AllHold (lineSoFar nothingGathered) (bytes "" gives some [] ∷ bytes "abcd" gives some [] ∷ [])
+unfolding computing
+nothing-computed = refl

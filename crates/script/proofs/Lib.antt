@@ -3,3 +3,4 @@ pub mod PlaceLaws
 pub mod ThenLaws
 pub mod LineLaws
 pub mod Examples
+pub mod GatheredLaws

@@ -8,30 +8,31 @@ use lib.Seq.{take-all}
 use borrow.Author.Tests.{eq-eqb, ne-eqb}
 use Rattle.text.specs.declared.number.Number.{Number}
 use Rattle.text.specs.declared.number.Number.the-variants as number
-use Rattle.script.specs.declared.line.Line.{Line}
-use Rattle.script.specs.declared.line.Line.the-variants as line
+use Rattle.script.specs.declared.line.ScriptLine.{ScriptLine}
+use Rattle.script.specs.declared.line.ScriptLine.the-variants as line
 use Rattle.script.specs.Words.{wordAt, lastNumber}
-use Rattle.script.specs.Line.{hash, numberMost, sessionLine, shortLine, commandLine, lineAt}
+use Rattle.script.specs.Limits.{numberMost}
+use Rattle.script.specs.Line.{hash, sessionLine, shortLine, commandLine, scriptLineAt}
 use Rattle.script.specs.Open.{computing}
 use Rattle.script.proofs.WordLaws.{word-part}
 
 module _ (s : List ℕ) (at : ℕ) where
   -- a position past the text has no line
-  pub line-none : length s ≤ at → line.Unknown ≡ lineAt s at
+  pub line-none : length s ≤ at → line.Unknown ≡ scriptLineAt s at
   unfolding computing
   line-none h = rw (List·getD-eq-default s 0 h, drop-of-length-le s {i = at} h, drop-of-length-le s {i = at + 0 + 1} (omega arith))
 
-  pub line-remark : getD s at 0 ≡ hash → line.Remark ≡ lineAt s at
-  unfolding lineAt
+  pub line-remark : getD s at 0 ≡ hash → line.Remark ≡ scriptLineAt s at
+  unfolding scriptLineAt
   line-remark h = rw (eq-eqb _ _ h)
 
-  pub line-command : (end : ℕ) (x : Line) → end ≡ at + length (wordAt s at) → (getD s at 0 ≡ hash → ⊥)
-      → x ≡ commandLine s at (take (end - at) (drop at s)) (end + 1) → x ≡ lineAt s at
-  unfolding lineAt
+  pub line-command : (end : ℕ) (x : ScriptLine) → end ≡ at + length (wordAt s at) → (getD s at 0 ≡ hash → ⊥)
+      → x ≡ commandLine s at (take (end - at) (drop at s)) (end + 1) → x ≡ scriptLineAt s at
+  unfolding scriptLineAt
   line-command end x q n e = e ∙ rw (ne-eqb _ _ n, word-part s at end q, q)
 
   -- no number is the last word
-  pub line-fixed : (w : List ℕ) (next : ℕ) (x : Number) (r : Line) → x ≡ lastNumber s next numberMost → x ≡ number.IllFormed
+  pub line-fixed : (w : List ℕ) (next : ℕ) (x : Number) (r : ScriptLine) → x ≡ lastNumber s next numberMost → x ≡ number.IllFormed
       → r ≡ sessionLine (take (length s - at) (drop at s)) → r ≡ shortLine s at w next
   unfolding shortLine
   line-fixed w next x r e h g = rw (← e, h) (rw (take-all (length s - at) (drop at s) (omega (arith, length-drop at s))) at g)

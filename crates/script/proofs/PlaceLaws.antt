@@ -1,9 +1,9 @@
 -- The place of a line's bytes, for each way out of the code. Assumes nothing.
 use Prim.Native.Nat.{ℕ, _+_, _-_, _≤_, _<_}
 use mathlib.Core.Path.{_≡_, refl, _∙_}
-use mathlib.Core.List.{List}
+use mathlib.Core.List.{List, []}
 use native.Mathlib.Omega.{arith}
-use lib.ListN.{length, take, drop, drop-of-length-le}
+use lib.ListN.{length, take, drop, drop-of-length-le, length-take, length-drop}
 use lib.Dec.{ltb}
 use borrow.Author.Tests.{lt-ltb, le-ltb}
 use Rattle.base.proofs.Tests.{cond-cases}
@@ -14,7 +14,7 @@ use Rattle.script.specs.declared.place.BlockRead.{BlockRead}
 use Rattle.script.specs.declared.place.BlockRead.the-variants as block
 use Rattle.script.specs.declared.place.Place.{Place}
 use Rattle.script.specs.Words.{word, wordAt}
-use Rattle.script.specs.Place.{place, blockAt, lastBlock}
+use Rattle.script.specs.Place.{place, blockAt, lastBlock, partAt}
 use Rattle.script.proofs.WordLaws.{word-part}
 
 -- a word of each form at a place
@@ -45,3 +45,11 @@ module _ (s : List ℕ) (from end : ℕ) (q : end ≡ from + length (wordAt s fr
     pub block-last : (x : BlockRead) → x ≡ blockAt r (place from end) → x ≡ lastBlock s from
     unfolding lastBlock
     block-last x f = f ∙ rw (e, word-part s from end q, ← q, le-ltb _ _ h)
+
+-- the part of a line at a place is no longer than the line
+pub part-most : (s : List ℕ) (p : Place) → length (partAt s p) ≤ length s
+unfolding partAt
+part-most s p =
+    cond-cases (λ (l : List ℕ). length l ≤ length s) (ltb (p .to) (p .from)) [] _ (λ t. omega arith)
+    λ f. cond-cases (λ (l : List ℕ). length l ≤ length s) (ltb (length s) (p .to)) [] _ (λ t. omega arith)
+    λ g. omega (arith, length-take (p .to - p .from) (drop (p .from) s), length-drop (p .from) s)

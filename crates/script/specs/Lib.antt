@@ -1,3 +1,5 @@
+pub mod Limits
+pub mod Gathered
 pub mod Words
 pub mod Place
 pub mod Line

@@ -8,26 +8,11 @@ use Rattle.base.specs.Quoted.{bytes}
 use Rattle.text.specs.Word.{sameBytes}
 use Rattle.text.specs.Then.{andThen}
 use Rattle.request.specs.declared.Request.the-variants as call
-use Rattle.script.specs.declared.line.Line.{Line}
-use Rattle.script.specs.declared.line.Line.the-variants as line
+use Rattle.script.specs.declared.line.ScriptLine.{ScriptLine}
+use Rattle.script.specs.declared.line.ScriptLine.the-variants as line
+use Rattle.script.specs.Limits.{numberMost, storeMost, recordsMost, reportMost}
 use Rattle.script.specs.Words.{wordAt, behindWord, numberWord, lastNumber}
 use Rattle.script.specs.Place.{lastBlock, andThenBlock}
-
--- "`SIZE`, `ID`, `COUNTER`, `N`, `AT` and `FIRST` are 0 to 4,294,967,295."
-abbrev pub numberMost : ℕ
-numberMost = 4294967295
-
--- "`STORE` is at most 1,048,576, the room of the program"
-abbrev pub storeMost : ℕ
-storeMost = 1048576
-
--- "`ROOM` at most 64 records"
-abbrev pub recordsMost : ℕ
-recordsMost = 64
-
--- "or 65,536 bytes"
-abbrev pub reportMost : ℕ
-reportMost = 65536
 
 -- "a line that begins with `#`"
 abbrev pub hash : ℕ
@@ -36,7 +21,7 @@ hash = 35
 -- ---- lines with bytes: the words from a position on, behind the first word
 
 -- "`load FIRST STORE BYTES`"
-unfoldable pub loadLine : List ℕ → ℕ → Line
+unfoldable pub loadLine : List ℕ → ℕ → ScriptLine
 loadLine s at =
     andThen line.Unknown (numberWord s at numberMost) λ first behind-first.
     andThen line.Unknown (numberWord s (behind-first .at) storeMost) λ store behind-store.
@@ -44,7 +29,7 @@ loadLine s at =
     line.Load first store list
 
 -- "`data ID COUNTER BYTES`"
-unfoldable pub dataLine : List ℕ → ℕ → Line
+unfoldable pub dataLine : List ℕ → ℕ → ScriptLine
 dataLine s at =
     andThen line.Unknown (numberWord s at numberMost) λ id behind-id.
     andThen line.Unknown (numberWord s (behind-id .at) numberMost) λ counter behind-counter.
@@ -52,7 +37,7 @@ dataLine s at =
     line.Data id counter b
 
 -- "`poke AT BYTES`"
-unfoldable pub pokeLine : List ℕ → ℕ → Line
+unfoldable pub pokeLine : List ℕ → ℕ → ScriptLine
 pokeLine s at =
     andThen line.Unknown (numberWord s at numberMost) λ n behind-n.
     andThenBlock line.Unknown (lastBlock s (behind-n .at)) λ b.
@@ -61,11 +46,11 @@ pokeLine s at =
 -- ---- lines of a word and one number
 
 -- "past one of these rooms: `unknown`"
-unfoldable pub within : ℕ → ℕ → Line → Line
+unfoldable pub within : ℕ → ℕ → ScriptLine → ScriptLine
 within n most l = cond (ltb most n) line.Unknown l
 
 -- "`packages ROOM`", "`clusters ROOM`, `changes ROOM`"
-unfoldable pub roomLine : List ℕ → ℕ → Line
+unfoldable pub roomLine : List ℕ → ℕ → ScriptLine
 roomLine w n =
     cond (sameBytes w (bytes "packages")) (within n recordsMost (line.Packages n))
     (cond (sameBytes w (bytes "clusters")) (within n reportMost (line.Clusters n))
@@ -73,7 +58,7 @@ roomLine w n =
     line.Unknown))
 
 -- "`process ID`, `work N`, `cancel ID`"
-unfoldable pub processingLine : List ℕ → ℕ → Line
+unfoldable pub processingLine : List ℕ → ℕ → ScriptLine
 processingLine w n =
     cond (sameBytes w (bytes "process")) (line.Call (call.Process n))
     (cond (sameBytes w (bytes "work")) (line.Call (call.Work n))
@@ -81,14 +66,14 @@ processingLine w n =
     (roomLine w n)))
 
 -- "`payload ID`", "`check ID`"
-unfoldable pub payloadLine : List ℕ → ℕ → Line
+unfoldable pub payloadLine : List ℕ → ℕ → ScriptLine
 payloadLine w n =
     cond (sameBytes w (bytes "payload")) (line.Payload n)
     (cond (sameBytes w (bytes "check")) (line.Check n)
     (processingLine w n))
 
 -- "`start SIZE`", "`exit ID`, `delete ID`"
-unfoldable pub transferLine : List ℕ → ℕ → Line
+unfoldable pub transferLine : List ℕ → ℕ → ScriptLine
 transferLine w n =
     cond (sameBytes w (bytes "start")) (line.Call (call.TransferStart n))
     (cond (sameBytes w (bytes "exit")) (line.Call (call.TransferExit n))
@@ -98,7 +83,7 @@ transferLine w n =
 -- ---- lines of fixed words
 
 -- "`report good`, `report bad`", "`progress`", "`store`"
-unfoldable pub showLine : List ℕ → Line
+unfoldable pub showLine : List ℕ → ScriptLine
 showLine s =
     cond (sameBytes s (bytes "report good")) (line.Call (call.Report true))
     (cond (sameBytes s (bytes "report bad")) (line.Call (call.Report false))
@@ -107,7 +92,7 @@ showLine s =
     line.Unknown)))
 
 -- "`revert`, `activate`, `rollback`, `finish`"
-unfoldable pub sessionLine : List ℕ → Line
+unfoldable pub sessionLine : List ℕ → ScriptLine
 sessionLine s =
     cond (sameBytes s (bytes "revert")) (line.Call call.Revert)
     (cond (sameBytes s (bytes "activate")) (line.Call call.Activate)
@@ -118,11 +103,11 @@ sessionLine s =
 -- ---- a line
 
 -- a line of one number, or of fixed words, whose first word ends at a position
-unfoldable pub shortLine : List ℕ → ℕ → List ℕ → ℕ → Line
+unfoldable pub shortLine : List ℕ → ℕ → List ℕ → ℕ → ScriptLine
 shortLine s at w next = andThen (sessionLine (drop at s)) (lastNumber s next numberMost) λ n end. transferLine w n
 
 -- a line by its first word, with the position behind that
-unfoldable pub commandLine : List ℕ → ℕ → List ℕ → ℕ → Line
+unfoldable pub commandLine : List ℕ → ℕ → List ℕ → ℕ → ScriptLine
 commandLine s at w next =
     cond (sameBytes w (bytes "load")) (loadLine s next)
     (cond (sameBytes w (bytes "data")) (dataLine s next)
@@ -130,6 +115,6 @@ commandLine s at w next =
     (shortLine s at w next)))
 
 -- the line at a position of a text, up to its end: "a line that is none of the above .. `unknown`"
-unfoldable pub lineAt : List ℕ → ℕ → Line
-lineAt s at =
+unfoldable pub scriptLineAt : List ℕ → ℕ → ScriptLine
+scriptLineAt s at =
     cond (eqb (getD s at 0) hash) line.Remark (commandLine s at (wordAt s at) (behindWord s at))

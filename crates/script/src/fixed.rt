@@ -1,44 +1,44 @@
 // Lines of fixed words.
 ghost use mathlib.Core.Path.{_≡_};
 ghost use Rattle.script.specs.Line.{sessionLine, showLine};
-use crate::line::Line;
+use crate::line::ScriptLine;
 use request::Request;
 use text::word::is_word;
 
 // Report, Progress and the line that shows the store.
-fn show_line(s: &[u8]) -> Line
+fn show_line(s: &[u8]) -> ScriptLine
     ensures { λ r. ⌜ r ≡ showLine (now (s .entry)) ⌝ }
 {
     if is_word(s, b"report good") {
-        return Line::Call(Request::Report(true));
+        return ScriptLine::Call(Request::Report(true));
     }
     if is_word(s, b"report bad") {
-        return Line::Call(Request::Report(false));
+        return ScriptLine::Call(Request::Report(false));
     }
     if is_word(s, b"progress") {
-        return Line::Progress;
+        return ScriptLine::Progress;
     }
     if is_word(s, b"store") {
-        return Line::Store;
+        return ScriptLine::Store;
     }
-    Line::Unknown
+    ScriptLine::Unknown
 }
 
 // The calls that end a session, or one of the lines above.
-pub fn session_line(s: &[u8]) -> Line
+pub fn session_line(s: &[u8]) -> ScriptLine
     ensures { λ r. ⌜ r ≡ sessionLine (now (s .entry)) ⌝ }
 {
     if is_word(s, b"revert") {
-        return Line::Call(Request::Revert);
+        return ScriptLine::Call(Request::Revert);
     }
     if is_word(s, b"activate") {
-        return Line::Call(Request::Activate);
+        return ScriptLine::Call(Request::Activate);
     }
     if is_word(s, b"rollback") {
-        return Line::Call(Request::Rollback);
+        return ScriptLine::Call(Request::Rollback);
     }
     if is_word(s, b"finish") {
-        return Line::Call(Request::Finish);
+        return ScriptLine::Call(Request::Finish);
     }
     show_line(s)
 }

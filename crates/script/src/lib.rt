@@ -1,7 +1,8 @@
-// The lines of the program `replay`: words, numbers and the place of a line's bytes.
-pub mod fixed;
+// The lines of the program `replay`: gathered from the input, their words and numbers, and the place of a line's bytes.
+mod fixed;
+pub mod gathered;
 pub mod limits;
 pub mod line;
-pub mod numbered;
+mod numbered;
 pub mod place;
-pub mod words;
+mod words;

@@ -1,4 +1,4 @@
-// The rooms of the program, each in this one place.
+// The rooms of the program, each in this one place of the code.
 
 // `SIZE`, `ID`, `COUNTER`, `N`, `AT` and `FIRST`.
 pub const NUMBER_MOST: u32 = 4294967295;

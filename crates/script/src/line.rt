@@ -2,7 +2,7 @@
 ghost use mathlib.Core.Path.{_≡_};
 ghost use Prim.Native.Nat.{_≤_};
 ghost use lib.ListN.{length};
-ghost use Rattle.script.specs.Line.{loadLine, dataLine, pokeLine, shortLine, commandLine, lineAt};
+ghost use Rattle.script.specs.Line.{loadLine, dataLine, pokeLine, shortLine, commandLine, scriptLineAt};
 use crate::fixed::session_line;
 use crate::limits::NUMBER_MOST;
 use crate::limits::STORE_MOST;
@@ -19,7 +19,7 @@ use text::number::Number;
 use text::word::is_word;
 
 // A call with its numbers and the place of its bytes, one of the lines that are no call, or none of them.
-pub enum Line {
+pub enum ScriptLine {
     Load { first: u32, store: u32, list: Place },
     Data { id: u32, counter: u32, block: Place },
     // a call of the twelve but TransferData
@@ -37,19 +37,19 @@ pub enum Line {
 }
 
 // The words behind `load`.
-fn load_line(s: &[u8], cursor: Cursor) -> Line
+fn read_load_line(s: &[u8], cursor: Cursor) -> ScriptLine
     ensures { λ r. ⌜ r ≡ loadLine (now (s .entry)) (cursor .at) ⌝ }
 {
     let Number::Value(first, behind_first) = number_word(s, cursor, NUMBER_MOST) else {
-        return Line::Unknown;
+        return ScriptLine::Unknown;
     };
     let Number::Value(store, behind_store) = number_word(s, behind_first, STORE_MOST) else {
-        return Line::Unknown;
+        return ScriptLine::Unknown;
     };
     let BlockRead::At(list) = last_block(s, behind_store) else {
-        return Line::Unknown;
+        return ScriptLine::Unknown;
     };
-    Line::Load {
+    ScriptLine::Load {
         first: first,
         store: store,
         list: list,
@@ -57,19 +57,19 @@ fn load_line(s: &[u8], cursor: Cursor) -> Line
 }
 
 // The words behind `data`.
-fn data_line(s: &[u8], cursor: Cursor) -> Line
+fn read_data_line(s: &[u8], cursor: Cursor) -> ScriptLine
     ensures { λ r. ⌜ r ≡ dataLine (now (s .entry)) (cursor .at) ⌝ }
 {
     let Number::Value(id, behind_id) = number_word(s, cursor, NUMBER_MOST) else {
-        return Line::Unknown;
+        return ScriptLine::Unknown;
     };
     let Number::Value(counter, behind_counter) = number_word(s, behind_id, NUMBER_MOST) else {
-        return Line::Unknown;
+        return ScriptLine::Unknown;
     };
     let BlockRead::At(block) = last_block(s, behind_counter) else {
-        return Line::Unknown;
+        return ScriptLine::Unknown;
     };
-    Line::Data {
+    ScriptLine::Data {
         id: id,
         counter: counter,
         block: block,
@@ -77,23 +77,23 @@ fn data_line(s: &[u8], cursor: Cursor) -> Line
 }
 
 // The words behind `poke`.
-fn poke_line(s: &[u8], cursor: Cursor) -> Line
+fn read_poke_line(s: &[u8], cursor: Cursor) -> ScriptLine
     ensures { λ r. ⌜ r ≡ pokeLine (now (s .entry)) (cursor .at) ⌝ }
 {
     let Number::Value(at, behind_at) = number_word(s, cursor, NUMBER_MOST) else {
-        return Line::Unknown;
+        return ScriptLine::Unknown;
     };
     let BlockRead::At(bytes) = last_block(s, behind_at) else {
-        return Line::Unknown;
+        return ScriptLine::Unknown;
     };
-    Line::Poke {
+    ScriptLine::Poke {
         at: at,
         bytes: bytes,
     }
 }
 
-// A line of one number, or of fixed words, with its first word and the cursor behind that. `line_at` has compared the position.
-fn short_line(s: &[u8], from: usize, word: &[u8], next: Cursor) -> Line
+// A line of one number, or of fixed words, with its first word and the cursor behind that. `script_line_at` has compared the position.
+fn short_line(s: &[u8], from: usize, word: &[u8], next: Cursor) -> ScriptLine
     requires { ⌜ from ≤ length (now s) ⌝ }
     ensures { λ r. ⌜ r ≡ shortLine (now (s .entry)) from (now (word .entry)) (next .at) ⌝ }
 {
@@ -103,33 +103,33 @@ fn short_line(s: &[u8], from: usize, word: &[u8], next: Cursor) -> Line
     transfer_line(word, n)
 }
 
-// A line that is no remark, with its first word and the cursor behind that. `line_at` has compared the position.
-fn command_line(s: &[u8], from: usize, word: &[u8], next: Cursor) -> Line
+// A line that is no remark, with its first word and the cursor behind that. `script_line_at` has compared the position.
+fn command_line(s: &[u8], from: usize, word: &[u8], next: Cursor) -> ScriptLine
     requires { ⌜ from ≤ length (now s) ⌝ }
     ensures { λ r. ⌜ r ≡ commandLine (now (s .entry)) from (now (word .entry)) (next .at) ⌝ }
 {
     if is_word(word, b"load") {
-        return load_line(s, next);
+        return read_load_line(s, next);
     }
     if is_word(word, b"data") {
-        return data_line(s, next);
+        return read_data_line(s, next);
     }
     if is_word(word, b"poke") {
-        return poke_line(s, next);
+        return read_poke_line(s, next);
     }
     short_line(s, from, word, next)
 }
 
 // The line at a cursor, up to the end of the text.
-pub fn line_at(s: &[u8], cursor: Cursor) -> Line
-    ensures { λ r. ⌜ r ≡ lineAt (now (s .entry)) (cursor .at) ⌝ }
+pub fn script_line_at(s: &[u8], cursor: Cursor) -> ScriptLine
+    ensures { λ r. ⌜ r ≡ scriptLineAt (now (s .entry)) (cursor .at) ⌝ }
 {
     let from = cursor.at;
     if s.len() <= from {
-        return Line::Unknown;
+        return ScriptLine::Unknown;
     }
     if s[from] == b'#' {
-        return Line::Remark;
+        return ScriptLine::Remark;
     }
     let end = word_end(s, from);
     command_line(s, from, &s[from..end], Cursor { at: end + 1 })

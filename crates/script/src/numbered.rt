@@ -3,77 +3,77 @@ ghost use mathlib.Core.Path.{_≡_};
 ghost use Rattle.script.specs.Line.{within, roomLine, processingLine, payloadLine, transferLine};
 use crate::limits::RECORDS_MOST;
 use crate::limits::REPORT_MOST;
-use crate::line::Line;
+use crate::line::ScriptLine;
 use request::Request;
 use text::word::is_word;
 
 // A line whose number is within its room.
-fn line_within(n: u32, most: u32, line: Line) -> Line
+fn line_within(n: u32, most: u32, line: ScriptLine) -> ScriptLine
     ensures { λ r. ⌜ r ≡ within n most line ⌝ }
 {
     if most < n {
-        return Line::Unknown;
+        return ScriptLine::Unknown;
     }
     line
 }
 
 // The reports into a room.
-fn room_line(word: &[u8], n: u32) -> Line
+fn room_line(word: &[u8], n: u32) -> ScriptLine
     ensures { λ r. ⌜ r ≡ roomLine (now (word .entry)) n ⌝ }
 {
     if is_word(word, b"packages") {
-        return line_within(n, RECORDS_MOST, Line::Packages { room: n });
+        return line_within(n, RECORDS_MOST, ScriptLine::Packages { room: n });
     }
     if is_word(word, b"clusters") {
-        return line_within(n, REPORT_MOST, Line::Clusters { room: n });
+        return line_within(n, REPORT_MOST, ScriptLine::Clusters { room: n });
     }
     if is_word(word, b"changes") {
-        return line_within(n, REPORT_MOST, Line::Changes { room: n });
+        return line_within(n, REPORT_MOST, ScriptLine::Changes { room: n });
     }
-    Line::Unknown
+    ScriptLine::Unknown
 }
 
 // The calls on a package in processing, or one of the lines above.
-fn processing_line(word: &[u8], n: u32) -> Line
+fn processing_line(word: &[u8], n: u32) -> ScriptLine
     ensures { λ r. ⌜ r ≡ processingLine (now (word .entry)) n ⌝ }
 {
     if is_word(word, b"process") {
-        return Line::Call(Request::Process(n));
+        return ScriptLine::Call(Request::Process(n));
     }
     if is_word(word, b"work") {
-        return Line::Call(Request::Work(n));
+        return ScriptLine::Call(Request::Work(n));
     }
     if is_word(word, b"cancel") {
-        return Line::Call(Request::Cancel(n));
+        return ScriptLine::Call(Request::Cancel(n));
     }
     room_line(word, n)
 }
 
 // Payload and the call beside it, or one of the lines above.
-fn payload_line(word: &[u8], n: u32) -> Line
+fn payload_line(word: &[u8], n: u32) -> ScriptLine
     ensures { λ r. ⌜ r ≡ payloadLine (now (word .entry)) n ⌝ }
 {
     if is_word(word, b"payload") {
-        return Line::Payload { id: n };
+        return ScriptLine::Payload { id: n };
     }
     if is_word(word, b"check") {
-        return Line::Check { id: n };
+        return ScriptLine::Check { id: n };
     }
     processing_line(word, n)
 }
 
 // The transfer calls but TransferData, or one of the lines above.
-pub fn transfer_line(word: &[u8], n: u32) -> Line
+pub fn transfer_line(word: &[u8], n: u32) -> ScriptLine
     ensures { λ r. ⌜ r ≡ transferLine (now (word .entry)) n ⌝ }
 {
     if is_word(word, b"start") {
-        return Line::Call(Request::TransferStart(n));
+        return ScriptLine::Call(Request::TransferStart(n));
     }
     if is_word(word, b"exit") {
-        return Line::Call(Request::TransferExit(n));
+        return ScriptLine::Call(Request::TransferExit(n));
     }
     if is_word(word, b"delete") {
-        return Line::Call(Request::DeleteTransfer(n));
+        return ScriptLine::Call(Request::DeleteTransfer(n));
     }
     payload_line(word, n)
 }

@@ -106,3 +106,14 @@ unfolding typedByte
 typed-put old from text new i b h e p =
     let g : getD (map typedByte text) i 0 ≡ b = List·getD-map typedByte text i 0 ∙ sym e in
     rw g at (bytes-on old from (map typedByte text) new i (omega (arith, length-map text typedByte)) p)
+
+-- a word stands for at most as many bytes as it has
+form-most : (form : Form) (w : List ℕ) → length (formBytes form w) ≤ length w
+form-most Digits w = omega (arith, length-digits-bytes w)
+form-most Nothing w = omega arith
+form-most Typed w = omega (arith, length-map (drop 1 w) typedByte, length-drop 1 w)
+form-most IllFormed w = omega arith
+
+pub block-most : (w : List ℕ) → length (blockBytes w) ≤ length w
+unfolding blockBytes
+block-most w = form-most (formOf w) w

@@ -32,7 +32,7 @@ fn typed_byte(b: u8) -> u8
     b
 }
 
-// Typed text. `put_block`'s caller has compared the length.
+// Typed text. `put_block_bytes`'s caller has compared the length.
 fn put_typed(buf: &mut [u8], at: usize, text: &[u8]) -> usize
     requires { ⌜ at + length (map typedByte (now text)) ≤ length (now buf) ⌝ }
     ensures { λ r. ⌜ Put (now (buf .entry)) at (map typedByte (now (text .entry))) r (now (buf .exit)) ⌝ }
@@ -46,7 +46,7 @@ fn put_typed(buf: &mut [u8], at: usize, text: &[u8]) -> usize
 }
 
 // The bytes that a word stands for. The program compares `block_length` with the room of its buffer or of the store.
-pub fn put_block(buf: &mut [u8], at: usize, word: &[u8]) -> usize
+pub fn put_block_bytes(buf: &mut [u8], at: usize, word: &[u8]) -> usize
     requires { ⌜ at + length (blockBytes (now word)) ≤ length (now buf) ⌝ }
     ensures { λ r. ⌜ Put (now (buf .entry)) at (blockBytes (now (word .entry))) r (now (buf .exit)) ⌝ }
 {

@@ -50,7 +50,7 @@ fn digits_byte(high: u8, low: u8) -> u8
     16 * digit_value(high) + digit_value(low)
 }
 
-// The bytes that digits stand for. `put_block` hands over such a word, and its caller has compared the length.
+// The bytes that digits stand for. `put_block_bytes` hands over such a word, and its caller has compared the length.
 pub fn put_digits_bytes(buf: &mut [u8], at: usize, word: &[u8]) -> usize
     requires { ⌜ (isDigits (now word) ≡ true) × (at + length (digitsBytes (now word)) ≤ length (now buf)) ⌝ }
     ensures { λ r. ⌜ Put (now (buf .entry)) at (digitsBytes (now (word .entry))) r (now (buf .exit)) ⌝ }

@@ -1,15 +1,17 @@
 -- `replay_bench::read_all` is safe and ends. The invariant: the buffers keep their lengths. The measure is the number of turns left. Assumes nothing.
 use mathlib.Core.Path.{_≡_}
 use lib.ListN.{length}
+use native.Mathlib.Omega.{arith}
 use borrow.Author.Needs.{needs}
+use Rattle.replay_bench.proofs.BenchLaws.{goes}
 use Rattle.replay_bench.proofs.read_all.Statement.{statement}
 use Rattle.replay_bench.proofs.read_all.Tie as tie
 
 abbrev Inv-loop : tie.InvT-loop
-Inv-loop store₀ line₀ input₀ buffer₀ bench₀ turns₀ store line input buffer bench turns = (length store ≡ length store₀) × (length line ≡ length line₀) × (length input ≡ length input₀) × (length buffer ≡ length buffer₀)
+Inv-loop bytes₀ line₀ input₀ buffer₀ bench₀ turns₀ bytes line input buffer bench turns = (length bytes ≡ length bytes₀) × (length line ≡ length line₀) × (length input ≡ length input₀) × (length buffer ≡ length buffer₀)
 
 abbrev μ-loop : tie.MeasureT-loop
-μ-loop store₀ line₀ input₀ buffer₀ bench₀ turns₀ store line input buffer bench turns = turns
+μ-loop bytes₀ line₀ input₀ buffer₀ bench₀ turns₀ bytes line input buffer bench turns = turns
 
 first-bench-requires : tie.Need-first-bench-requires Inv-loop μ-loop
 first-bench-requires c κs = search needs
@@ -33,7 +35,7 @@ returns : tie.Need-returns Inv-loop μ-loop
 returns c = search needs
 
 read-some-requires : tie.Need-read-some-requires Inv-loop μ-loop
-read-some-requires c κs = search needs
+read-some-requires c κs = (omega arith, search goes)
 
 sub-turns : tie.Need-sub-turns Inv-loop μ-loop
 sub-turns c = search needs

@@ -4,14 +4,15 @@ use mathlib.Core.Path.{_≡_}
 use native.Mathlib.Omega.{arith}
 use lib.ListN.{length, length-take, length-drop}
 use borrow.Author.Needs.{needs}
+use Rattle.replay_bench.proofs.BenchLaws.{goes}
 use Rattle.replay_bench.proofs.gather.take_lines.Statement.{statement}
 use Rattle.replay_bench.proofs.gather.take_lines.Tie as tie
 
 abbrev Inv-loop : tie.InvT-loop
-Inv-loop store₀ line₀ input buffer₀ now₀ at₀ store line buffer now at = (length store ≡ length store₀) × (length line ≡ length line₀) × (length buffer ≡ length buffer₀)
+Inv-loop bytes₀ line₀ input buffer₀ now₀ at₀ bytes line buffer now at = (length bytes ≡ length bytes₀) × (length line ≡ length line₀) × (length buffer ≡ length buffer₀)
 
 abbrev μ-loop : tie.MeasureT-loop
-μ-loop store₀ line₀ input buffer₀ now₀ at₀ store line buffer now at = length input - at
+μ-loop bytes₀ line₀ input buffer₀ now₀ at₀ bytes line buffer now at = length input - at
 
 loop-holds : tie.Need-loop-holds Inv-loop μ-loop
 loop-holds c = search needs
@@ -41,7 +42,7 @@ part-take-part-end : tie.Need-part-take-part-end Inv-loop μ-loop
 part-take-part-end c = search needs
 
 take-part-requires : tie.Need-take-part-requires Inv-loop μ-loop
-take-part-requires c κs = simp (length-take, length-drop) (omega arith)
+take-part-requires c κs = (simp (length-take, length-drop) (omega arith), omega arith, search goes)
 
 loop-less : tie.Need-loop-less Inv-loop μ-loop
 loop-less c = search needs

@@ -11,8 +11,8 @@ slice-aggregate-is-word c = search needs
 is-word-requires : tie.Need-is-word-requires
 is-word-requires c κs = search needs
 
-load-line-requires : tie.Need-load-line-requires
-load-line-requires c κs = search needs
+read-load-line-requires : tie.Need-read-load-line-requires
+read-load-line-requires c κs = search needs
 
 returns : tie.Need-returns
 unfolding commandLine
@@ -24,8 +24,8 @@ slice-aggregate-is-word-2 c = search needs
 is-word-requires-2 : tie.Need-is-word-requires-2
 is-word-requires-2 c κs = search needs
 
-data-line-requires : tie.Need-data-line-requires
-data-line-requires c κs = search needs
+read-data-line-requires : tie.Need-read-data-line-requires
+read-data-line-requires c κs = search needs
 
 returns-2 : tie.Need-returns-2
 unfolding commandLine
@@ -37,8 +37,8 @@ slice-aggregate-is-word-3 c = search needs
 is-word-requires-3 : tie.Need-is-word-requires-3
 is-word-requires-3 c κs = search needs
 
-poke-line-requires : tie.Need-poke-line-requires
-poke-line-requires c κs = search needs
+read-poke-line-requires : tie.Need-read-poke-line-requires
+read-poke-line-requires c κs = search needs
 
 returns-3 : tie.Need-returns-3
 unfolding commandLine
@@ -57,15 +57,15 @@ command-line-spec =
     (tie.spec
     slice-aggregate-is-word
     is-word-requires
-    load-line-requires
+    read-load-line-requires
     returns
     slice-aggregate-is-word-2
     is-word-requires-2
-    data-line-requires
+    read-data-line-requires
     returns-2
     slice-aggregate-is-word-3
     is-word-requires-3
-    poke-line-requires
+    read-poke-line-requires
     returns-3
     short-line-requires
     returns-4)

@@ -1,7 +1,7 @@
 -- What a line and a part of one leave, from what the functions that are called promise: k is what was kept, r what a function gives back.
 -- Assumes nothing.
 use Prim.Native.Nat.{ℕ, _-_, _≤_, _<_}
-use mathlib.Core.Path.{_≡_, sym, ap, _∙_}
+use mathlib.Core.Path.{_≡_, ap, _∙_}
 use mathlib.Core.Bool.{Bool, true, false, not}
 use mathlib.Core.List.{List, []}
 use mathlib.Core.Option.{Option, some}
@@ -16,12 +16,18 @@ use Rattle.script.specs.Line.{scriptLineAt}
 use Rattle.script.proofs.GatheredLaws.{so-far-too-long, so-far-past, so-far, nothing-so-far}
 use Rattle.script_calls.specs.declared.kept.Kept.{Kept}
 use Rattle.script_calls.specs.declared.kept.Played.{Played}
-use Rattle.script_calls.specs.Kept.{LineOutcome, lineOutcome}
+use Rattle.script_calls.specs.Kept.{lineOutcome}
 use Rattle.script_calls.specs.Line.{lineGives}
 use Rattle.replay_bench.specs.declared.bench.Bench.{Bench}
 use Rattle.replay_bench.specs.declared.play.AfterLine.{AfterLine}
-use Rattle.replay_bench.specs.Bench.{benchAfter, lineAfter, Held, held, leaves, afterText, afterLine, afterGathered, between, reading, endsLine, afterLinePart, afterPart}
-use Rattle.replay_bench.proofs.Laws.{part-long}
+use Rattle.replay_bench.specs.Bench.{NothingRead, benchAfter, lineAfter, Held, held, leaves, afterText, afterLine, afterGathered, between, reading, endsLine, afterLinePart, afterPart}
+use Rattle.script_calls.proofs.LentLaws.{part-long}
+
+-- before the first read no line is being gathered
+pub first-reading : (b : Bench) (line : List ℕ) (bytes : Store) → NothingRead b
+    → reading b line bytes ≡ between (held (b .kept) bytes) (some [])
+first-reading b line bytes nothing =
+    ap (λ (l : Option (List ℕ)). between (held (b .kept) bytes) l) (ap (λ (g : Gathered). lineSoFar g line) (nothing .gathered) ∙ nothing-so-far line)
 
 -- ---- parts of a line
 
@@ -93,7 +99,3 @@ part-taken b line part bytes g line′ after ends r e f same =
     same
     ∙ ap (λ (l : Option (List ℕ)). afterLinePart ends l (held (b .kept) bytes)) e
     ∙ ap (λ (t : Bool). afterLinePart t (withPart (length line) (lineSoFar (b .gathered) line) part) (held (b .kept) bytes)) f
-
--- a test that is made as `if !b` and passed
-pub goes : (t : Bool) → not t ≡ false → t ≡ true
-goes t e = not-false t e

@@ -1,10 +1,11 @@
 // The lines of the input, which comes in parts.
 ghost use mathlib.Core.Path.{_≡_};
 ghost use mathlib.Core.Bool.{true};
-ghost use Prim.Native.Nat.{_≤_, _<_};
-ghost use lib.ListN.{length};
+ghost use Prim.Native.Nat.{_+_, _≤_, _<_};
+ghost use lib.ListN.{length, drop};
 ghost use Rattle.script.specs.Gathered.{lineSoFar};
 ghost use Rattle.replay_bench.specs.Bench.{held, afterGathered, reading, endsLine, afterLinePart, afterPart};
+ghost use Rattle.replay_bench.specs.Input.{upToLineEnd, afterBytes, IfGoesOn};
 use crate::bench::Bench;
 use crate::bench::bench_after;
 use crate::play::AfterLine;
@@ -85,7 +86,7 @@ fn take_part(
 // The position behind the next LF, or the end. `take_lines` gives a position within the input.
 fn behind_line(input: &[u8], at: usize) -> usize
     requires { ⌜ at < length (now input) ⌝ }
-    ensures { λ r. ⌜ (at < r) × (r ≤ length (now (input .entry))) ⌝ }
+    ensures { λ r. ⌜ (at < r) × (r ≤ length (now (input .entry))) × (r ≡ at + length (upToLineEnd (drop at (now (input .entry))))) ⌝ }
 {
     let end = bytes::scan::find(input, at, input.len(), b'\n');
     if end < input.len() {
@@ -94,7 +95,7 @@ fn behind_line(input: &[u8], at: usize) -> usize
     end
 }
 
-// Every line of a part of the input, and what is left behind the last.
+// Every line of a part of the input, and what is left behind the last. Where a write fails, the rest is not taken.
 pub fn take_lines(
     bench: Bench,
     bytes: &mut [u8],
@@ -103,6 +104,7 @@ pub fn take_lines(
     buffer: &mut [u8],
 ) -> Bench
     requires { ⌜ length (now line) ≤ length (now buffer) ⌝ }
+    ensures { λ r. ⌜ IfGoesOn (r .«goes_on») (afterBytes (length (now (line .entry))) (now (input .entry)) (reading bench (now (line .entry)) (now (bytes .entry)))) (reading r (now (line .exit)) (now (bytes .exit))) ⌝ }
 {
     let mut now = bench;
     let mut at = 0;

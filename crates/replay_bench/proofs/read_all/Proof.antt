@@ -3,7 +3,7 @@ use mathlib.Core.Path.{_≡_}
 use lib.ListN.{length}
 use native.Mathlib.Omega.{arith}
 use borrow.Author.Needs.{needs}
-use Rattle.replay_bench.proofs.BenchLaws.{goes}
+use borrow.Author.Tests.{not-false}
 use Rattle.replay_bench.proofs.read_all.Statement.{statement}
 use Rattle.replay_bench.proofs.read_all.Tie as tie
 
@@ -35,7 +35,7 @@ returns : tie.Need-returns Inv-loop μ-loop
 returns c = search needs
 
 read-some-requires : tie.Need-read-some-requires Inv-loop μ-loop
-read-some-requires c κs = (omega arith, search goes)
+read-some-requires c κs = (omega arith, search not-false)
 
 sub-turns : tie.Need-sub-turns Inv-loop μ-loop
 sub-turns c = search needs

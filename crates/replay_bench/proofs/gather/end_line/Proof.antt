@@ -1,6 +1,6 @@
 -- `replay_bench::gather::end_line` meets its contract: a law for each way out. Assumes nothing.
 use borrow.Author.Needs.{needs}
-use Rattle.replay_bench.proofs.Laws.{part-long}
+use Rattle.script_calls.proofs.LentLaws.{part-long}
 use Rattle.replay_bench.proofs.BenchLaws.{part-room, ended-too-long, ended-past, ended}
 use Rattle.replay_bench.proofs.gather.end_line.Statement.{statement}
 use Rattle.replay_bench.proofs.gather.end_line.Tie as tie

@@ -1,6 +1,6 @@
 -- `replay_bench::reading::changes_line` is safe: what is lent is a part of the buffer. Assumes nothing.
 use borrow.Author.Needs.{needs}
-use Rattle.replay_bench.proofs.Laws.{part-long}
+use Rattle.script_calls.proofs.LentLaws.{part-long}
 use Rattle.replay_bench.proofs.reading.changes_line.Statement.{statement}
 use Rattle.replay_bench.proofs.reading.changes_line.Tie as tie
 

@@ -1,6 +1,6 @@
 -- `replay_bench::reading::clusters_line` is safe: what is lent is a part of the buffer. Assumes nothing.
 use borrow.Author.Needs.{needs}
-use Rattle.replay_bench.proofs.Laws.{part-long}
+use Rattle.script_calls.proofs.LentLaws.{part-long}
 use Rattle.replay_bench.proofs.reading.clusters_line.Statement.{statement}
 use Rattle.replay_bench.proofs.reading.clusters_line.Tie as tie
 

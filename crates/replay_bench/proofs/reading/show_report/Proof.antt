@@ -1,6 +1,6 @@
 -- `replay_bench::reading::show_report` is safe: what was written is a part of the buffer. Assumes nothing.
 use borrow.Author.Needs.{needs}
-use Rattle.replay_bench.proofs.Laws.{part-long}
+use Rattle.script_calls.proofs.LentLaws.{part-long}
 use Rattle.replay_bench.proofs.reading.show_report.Statement.{statement}
 use Rattle.replay_bench.proofs.reading.show_report.Tie as tie
 

@@ -1,0 +1,27 @@
+-- What the bytes of the input make of what the program holds, in whatever parts they come.
+use Prim.Native.Nat.{ℕ}
+use mathlib.Core.Path.{_≡_}
+use mathlib.Core.Bool.{Bool, true, cond}
+use mathlib.Core.List.{List, [], _∷_}
+use lib.Dec.{eqb}
+use Rattle.base.specs.Quoted.{LF}
+use Rattle.script.specs.Gathered.{withPart}
+use Rattle.replay_bench.specs.Bench.{Reading, afterLinePart}
+
+-- after one byte, with so much room for a line
+unfoldable pub afterByte : ℕ → ℕ → Reading → Reading
+afterByte room b r = afterLinePart (eqb b LF) (withPart room (r .line) (b ∷ [])) (r .holds)
+
+-- after bytes, one after the other
+unfoldable pub afterBytes : ℕ → List ℕ → Reading → Reading
+afterBytes room [] r = r
+afterBytes room (b ∷ input) r = afterBytes room input (afterByte room b r)
+
+-- a text up to its first LF and with it, or all of it
+unfoldable pub upToLineEnd : List ℕ → List ℕ
+upToLineEnd [] = []
+upToLineEnd (b ∷ l) = cond (eqb b LF) (b ∷ []) (b ∷ upToLineEnd l)
+
+-- where the program goes on, what was to be read is what is read; where a write has failed, nothing is said
+pub record IfGoesOn (on : Bool) (all read : Reading) : Type 0 where
+  pub same : on ≡ true → all ≡ read

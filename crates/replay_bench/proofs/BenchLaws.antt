@@ -1,7 +1,7 @@
 -- What a line and a part of one leave, from what the functions that are called promise: k is what was kept, r what a function gives back.
 -- Assumes nothing.
 use Prim.Native.Nat.{ℕ, _-_, _≤_, _<_}
-use mathlib.Core.Path.{_≡_, sym, ap, _∙_}
+use mathlib.Core.Path.{_≡_, ap, _∙_}
 use mathlib.Core.Bool.{Bool, true, false, not}
 use mathlib.Core.List.{List, []}
 use mathlib.Core.Option.{Option, some}
@@ -16,11 +16,11 @@ use Rattle.script.specs.Line.{scriptLineAt}
 use Rattle.script.proofs.GatheredLaws.{so-far-too-long, so-far-past, so-far, nothing-so-far}
 use Rattle.script_calls.specs.declared.kept.Kept.{Kept}
 use Rattle.script_calls.specs.declared.kept.Played.{Played}
-use Rattle.script_calls.specs.Kept.{LineOutcome, lineOutcome}
+use Rattle.script_calls.specs.Kept.{lineOutcome}
 use Rattle.script_calls.specs.Line.{lineGives}
 use Rattle.replay_bench.specs.declared.bench.Bench.{Bench}
 use Rattle.replay_bench.specs.declared.play.AfterLine.{AfterLine}
-use Rattle.replay_bench.specs.Bench.{benchAfter, lineAfter, Held, held, leaves, afterText, afterLine, afterGathered, between, reading, endsLine, afterLinePart, afterPart}
+use Rattle.replay_bench.specs.Bench.{benchAfter, lineAfter, Held, held, heldAfter, afterText, afterLine, afterGathered, between, reading, endsLine, afterLinePart, afterPart}
 use Rattle.replay_bench.proofs.Laws.{part-long}
 
 -- ---- parts of a line
@@ -46,7 +46,7 @@ pub text-played : (text : List ℕ) (x : ScriptLine) (k : Kept) (bytes after : S
     → held (r .kept) after ≡ afterText text (held k bytes)
 unfolding afterText
 text-played text x k bytes after p r f same g =
-    ap (λ (q : Kept). held q after) g ∙ ap leaves (same ∙ ap (λ (y : ScriptLine). lineGives text y k bytes) f)
+    ap (λ (q : Kept). held q after) g ∙ ap heldAfter (same ∙ ap (λ (y : ScriptLine). lineGives text y k bytes) f)
 
 pub line-played : (line : List ℕ) (n : ℕ) (h g : Held) → n ≡ length line - 1 → g ≡ afterText (take n line) h → g ≡ afterLine line h
 line-played line n h g e same = same ∙ ap (λ (m : ℕ). afterText (take m line) h) e

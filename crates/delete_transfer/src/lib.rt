@@ -57,7 +57,7 @@ fn take_out(s: State, store: &mut [u8], id: u32) -> Answered
     answer_with(Answer::Done, with_transfers(s, remaining(t, deletion)))
 }
 
-// DeleteTransfer of a state that is known to be sound.
+// DeleteTransfer of a state that is known to be sound, which `delete_transfer` checks.
 pub fn delete_transfer_on_sound(s: State, store: &mut [u8], id: u32) -> Answered
     requires { ⌜ soundFor (viewState s) (length (now store)) ≡ true ⌝ }
     ensures { λ r. ⌜ outcome r (now (store .exit)) ≡ calledOnSound s (now (store .entry)) (deleteTransfer id) (withoutTransfer s (now (store .entry)) id) ⌝ }

@@ -14,13 +14,13 @@ use Rattle.base.proofs.RefusalNumbers.{zero-passes}
 use Rattle.text.specs.declared.version.Version.{Version}
 use Rattle.place_in_list.specs.declared.Found.{Found}
 use Rattle.place_in_list.specs.declared.Found.the-variants.{At, Nothing}
+use Rattle.place_in_list.specs.Place.{placeOr}
 use Rattle.clusters.specs.declared.columns.Columns.{Columns}
 use Rattle.clusters.specs.Table.{Table, find}
-use Rattle.clusters.specs.View.{noCluster, viewCluster}
+use Rattle.clusters.specs.View.{viewCluster}
 use Rattle.clusters.specs.Place.{placeAmong}
 use Rattle.clusters.specs.Columns.{ColumnsOf}
 use Rattle.clusters.proofs.ColumnLaws.{place-below, none-among, found-among}
-use Rattle.actions.specs.declared.action.Change.the-variants.{Install}
 use Rattle.actions.specs.declared.refusals.Staged.the-variants as staged
 use Rattle.actions.specs.Action.{Action, install, update, remove, actionPart}
 use Rattle.actions.specs.Refusals.{touched, stagedRefusals}
@@ -29,15 +29,11 @@ use Rattle.actions.proofs.StagedLaws.{part-of}
 use Rattle.actions.proofs.Arrays.{map-take}
 use Rattle.state.specs.declared.session.Entry.{Entry}
 use Rattle.listed_actions.specs.Listed.{isAmong, entryAction, listedActions, entryPart}
-use Rattle.listed_actions.specs.InTurn.{passesUntouched, stagedAfter, passInTurnOn, placeOrFirst, stagedAt}
-
--- what the logic reads past the end of an array of entries
-abbrev pub noEntry : Entry
-noEntry = record { id = 0; action = record { change = Install; cluster = noCluster } }
+use Rattle.listed_actions.specs.InTurn.{passesUntouched, stagedAfter, passInTurnOn, stagedAt}
 
 -- ---- the place of an old version is in the array
 
-pub place-or-first-below : (part n most : ℕ) (l : List ℕ) (place : Found) → n ≤ most → 1 ≤ most → place ≡ placeAmong 0 part (take n l) → placeOrFirst place < most
+pub place-or-first-below : (part n most : ℕ) (l : List ℕ) (place : Found) → n ≤ most → 1 ≤ most → place ≡ placeAmong 0 part (take n l) → placeOr 0 place < most
 place-or-first-below part n most l Nothing few room e = omega arith
 place-or-first-below part n most l (At i) few room e = omega (arith, place-below part n l i (sym e))
 
@@ -46,7 +42,7 @@ place-or-first-below part n most l (At i) few room e = omega (arith, place-below
 -- the place that is found in the columns of a table says what the table has under the part number
 pub staged-by-place : (columns : Columns) (t : Table) → ColumnsOf columns t → (part : ℕ) (v : Version) (place : Found)
     → place ≡ placeAmong 0 part (take (columns .count) (columns .parts))
-    → stagedAt place (getD (columns .versions) (placeOrFirst place) v) ≡ stagedAs (find part t)
+    → stagedAt place (getD (columns .versions) (placeOr 0 place) v) ≡ stagedAs (find part t)
 staged-by-place columns t of part v Nothing e = sym (ap stagedAs (none-among columns t of part (sym e)))
 staged-by-place columns t of part v (At i) e =
     let f = found-among columns t of part i v (sym e) in

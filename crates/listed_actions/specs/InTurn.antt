@@ -35,11 +35,6 @@ passInTurnOn beginning staged listed (a ∷ rest) =
 
 -- ---- the same by what the columns of the table have
 
--- the place of a cluster in the columns, and the first where it is not there: a place to read a version at in either case
-abbrev pub placeOrFirst : Found → ℕ
-placeOrFirst (At i) = i
-placeOrFirst Nothing = 0
-
 -- what is staged of the cluster with that place, where its version stands
 abbrev pub stagedAt : Found → Version → Staged
 stagedAt (At i) version = staged.At version

@@ -14,6 +14,7 @@ ghost use mathlib.Core.Path.{_≡_};
 ghost use mathlib.Core.Bool.{true};
 ghost use mathlib.Core.List.{[]};
 ghost use Prim.Native.Nat.{_+_, _≤_, _<_};
+ghost use Rattle.place_in_list.specs.Place.{placeOr};
 ghost use Rattle.clusters.specs.Cluster.{Cluster as PlainCluster};
 ghost use Rattle.clusters.specs.Table.{Table as PlainTable, tableWithin, clustersMost};
 ghost use Rattle.clusters.specs.Columns.{ColumnsOf};
@@ -22,11 +23,11 @@ ghost use Rattle.actions.specs.Refusals.{passInTurn};
 ghost use Rattle.actions.specs.View.{actionOf};
 ghost use Rattle.state.specs.View.{entriesMost};
 ghost use Rattle.listed_actions.specs.Listed.{listedActions};
-ghost use Rattle.listed_actions.specs.InTurn.{placeOrFirst, stagedAt, stagedAfter};
+ghost use Rattle.listed_actions.specs.InTurn.{stagedAt, stagedAfter};
 
-// A place to read a version from, where the cluster is there or not.
+// A place to read a version at: the cluster's in the columns, and the first where it is not there.
 fn place_or_first(place: Found) -> usize
-    ensures { λ r. ⌜ r ≡ placeOrFirst place ⌝ }
+    ensures { λ r. ⌜ r ≡ placeOr 0 place ⌝ }
 {
     match place {
         Found::At(i) => i,

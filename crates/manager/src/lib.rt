@@ -28,7 +28,7 @@ ghost use Rattle.state.specs.Outcome.{outcome, viewOutcome, SoundIfAccepted, ca
 ghost use Rattle.manager.specs.Accepts.{accepts, exactStep};
 
 // A call of a state that is known to be sound, which `call` checks. Only TransferData has a block.
-pub fn call_on_sound(s: State, store: &mut [u8], request: Request, block: &[u8]) -> Answered
+fn call_on_sound(s: State, store: &mut [u8], request: Request, block: &[u8]) -> Answered
     requires { ⌜ soundFor (viewState s) (length (now store)) ≡ true ⌝ }
     ensures { λ r. ⌜ outcome r (now (store .exit)) ≡ calledOnSound s (now (store .entry)) (callOf request (now (block .entry))) (accepts s (now (store .entry)) (callOf request (now (block .entry)))) ⌝ }
 {

@@ -46,10 +46,10 @@ use Rattle.process_package.specs.Process.{workOfPackage, checkedBy, chec
 -- ---- what is kept
 
 -- the part number of an action that was read is at least 1, so the values are not the cleared ones
-view-work-begun : (bytes : List ℕ) (m : Manifest) → readPackage bytes ≡ consistent m
+view-work-of-package : (bytes : List ℕ) (m : Manifest) → readPackage bytes ≡ consistent m
     → viewWork (workOfPackage (packageRead (consistent m))) ≡ some (step.workAtStart m)
 unfolding packageRead
-view-work-begun bytes m e =
+view-work-of-package bytes m e =
     let w = workOfPackage (packageRead (consistent m)) in
     let same = readPackage-viewed bytes m e in
     bool-cases (isClearedWork w)
@@ -124,7 +124,7 @@ module _ (s : State) (store : Store) (id : ℕ) where
       let read = read-consistent h in
       let m = manifestOf (areaRead (viewState s) store id) in
       let transfers = view-changed (s .transfers) few long id (inState packageState.Processing) (areas.inState model.beingProcessed) (λ p. refl) in
-      let work = ap (λ (p : PackageRead). viewWork (workOfPackage (packageRead p))) read ∙ view-work-begun (areaOf id (viewPackages (s .transfers)) store) m read in
+      let work = ap (λ (p : PackageRead). viewWork (workOfPackage (packageRead p))) read ∙ view-work-of-package (areaOf id (viewPackages (s .transfers)) store) m read in
       ap₂ (λ (t : model.Transfers) (w : Option model.Work). step.outcome done (model.state model.processing t (viewSession (s .session)) w) store) transfers work
 
 -- ---- what an accepted call gives, by its parts

@@ -2,9 +2,7 @@
 use reading_reply::ReadingReply;
 use refusal::BAD_STATE;
 use soundness::sound::sound;
-use state::phase::PROCESSING;
 use state::phase::is_processing;
-use state::phase::phase_number;
 use state::state::State;
 use state::work::Work;
 ghost use mathlib.Core.Path.{_≡_};
@@ -36,7 +34,7 @@ fn percentage(w: Work) -> usize
 }
 
 // Progress of a state that is known to be sound, which `progress` checks.
-pub fn progress_on_sound(s: State, store: &[u8]) -> ReadingReply
+fn progress_on_sound(s: State, store: &[u8]) -> ReadingReply
     requires { ⌜ soundFor (viewState s) (length (now store)) ≡ true ⌝ }
     ensures { λ r. ⌜ replyOf r ≡ given (progressOf (viewState s .work)) ⌝ }
 {

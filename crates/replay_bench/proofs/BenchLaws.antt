@@ -20,7 +20,7 @@ use Rattle.script_calls.specs.Kept.{lineOutcome}
 use Rattle.script_calls.specs.Line.{lineGives}
 use Rattle.replay_bench.specs.declared.bench.Bench.{Bench}
 use Rattle.replay_bench.specs.declared.play.AfterLine.{AfterLine}
-use Rattle.replay_bench.specs.Bench.{NothingRead, benchAfter, lineAfter, Held, held, leaves, afterText, afterLine, afterGathered, between, reading, endsLine, afterLinePart, afterPart}
+use Rattle.replay_bench.specs.Bench.{NothingRead, benchAfter, lineAfter, Held, held, heldAfter, afterText, afterLine, afterGathered, between, reading, endsLine, afterLinePart, afterPart}
 use Rattle.script_calls.proofs.LentLaws.{part-long}
 
 -- before the first read no line is being gathered
@@ -52,7 +52,7 @@ pub text-played : (text : List ℕ) (x : ScriptLine) (k : Kept) (bytes after : S
     → held (r .kept) after ≡ afterText text (held k bytes)
 unfolding afterText
 text-played text x k bytes after p r f same g =
-    ap (λ (q : Kept). held q after) g ∙ ap leaves (same ∙ ap (λ (y : ScriptLine). lineGives text y k bytes) f)
+    ap (λ (q : Kept). held q after) g ∙ ap heldAfter (same ∙ ap (λ (y : ScriptLine). lineGives text y k bytes) f)
 
 pub line-played : (line : List ℕ) (n : ℕ) (h g : Held) → n ≡ length line - 1 → g ≡ afterText (take n line) h → g ≡ afterLine line h
 line-played line n h g e same = same ∙ ap (λ (m : ℕ). afterText (take m line) h) e

@@ -3,11 +3,8 @@ use Prim.Native.Nat.{ℕ, _≤_}
 use mathlib.Core.Path.{_≡_, sym, ap, _∙_}
 use mathlib.Core.List.{List, _++_, append-assoc}
 use native.Mathlib.Omega.{arith}
-use lib.Dec.{ltb}
 use lib.ListN.{length, take, drop, take-append-drop, length-map, length-take}
 use lib.Seq.{drop-append-le}
-use borrow.Author.Tests.{ltb-false}
-use Rattle.base.proofs.Tests.{cond-cases}
 use Rattle.model.specs.State.{Store}
 use Rattle.model.specs.Sound.{packagesMost}
 use Rattle.model.specs.Reading.{ReadingReply, refusedBy, shortBuffer, given, Report, PackageRecord, packageRecords, packagesReport, reportOf, reportReply, reportBuffer}
@@ -19,10 +16,6 @@ use Rattle.reading_reply.specs.declared.ReadingReply.{ReadingReply as Reply}
 use Rattle.reading_reply.specs.Reply.{replyOf}
 use Rattle.packages_report.specs.Packages.{listed, packagesReply, viewList, packagesGiven}
 use Rattle.packages_report.proofs.Reported.{Fits, fits}
-use Rattle.replay_bench.specs.LentList.{listMost, roomWithin}
-
-pub room-within-most : (room : ℕ) → roomWithin room ≤ listMost
-room-within-most room = cond-cases (λ (n : ℕ). n ≤ listMost) (ltb listMost room) listMost room (λ e. omega arith) (ltb-false listMost room)
 
 module _ (s : State) (long : length (s .transfers .packages) ≡ packagesMost) (xs : List Record) (n : ℕ) (inside : n ≤ length xs) where
   abbrev lent : List Record

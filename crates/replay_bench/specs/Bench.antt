@@ -39,13 +39,13 @@ pub record Held : Type 0 where
 abbrev pub held : Kept → Store → Held
 held k bytes = record { kept = k; bytes = bytes }
 
--- what a line leaves
-abbrev pub leaves : LineOutcome → Held
-leaves o = held (o .played .kept) (o .bytes)
+-- what the program holds after a line
+abbrev pub heldAfter : LineOutcome → Held
+heldAfter o = held (o .played .kept) (o .bytes)
 
 -- after a line without its LF: what it reads as is what it gives
 unfoldable pub afterText : List ℕ → Held → Held
-afterText text h = leaves (lineGives text (scriptLineAt text 0) (h .kept) (h .bytes))
+afterText text h = heldAfter (lineGives text (scriptLineAt text 0) (h .kept) (h .bytes))
 
 -- after a line: "One call to a line, every line ends in LF"
 abbrev pub afterLine : List ℕ → Held → Held

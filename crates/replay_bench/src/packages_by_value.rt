@@ -3,6 +3,8 @@ use packages_report::Record;
 use packages_report::cleared_record;
 use packages_report::packages;
 use reading_reply::ReadingReply;
+use script::limits::RECORDS_MOST;
+use script_calls::lent::lent;
 use state::state::State;
 ghost use mathlib.Core.Path.{_≡_};
 ghost use lib.ListN.{replicate};
@@ -11,10 +13,11 @@ ghost use Rattle.state.specs.View.{viewState};
 ghost use Rattle.reading_reply.specs.Reply.{replyOf};
 ghost use Rattle.packages_report.specs.Records.{clearedRecord};
 ghost use Rattle.packages_report.specs.Packages.{listed, packagesReply};
-ghost use Rattle.replay_bench.specs.LentList.{listMost, roomWithin};
+ghost use Rattle.script.specs.Limits.{recordsMost};
+ghost use Rattle.script_calls.specs.Line.{lentCount};
 
-// The room of the list.
-pub const LIST_MOST: usize = 64;
+// The room of the list: as many records as a line may ask for.
+pub const LIST_MOST: usize = RECORDS_MOST as usize;
 
 // The answer, and the list as Packages leaves it; it was cleared before.
 pub struct PackagesByValue {
@@ -24,7 +27,7 @@ pub struct PackagesByValue {
 
 // The list before it is lent.
 fn cleared_list() -> [Record; LIST_MOST]
-    ensures { λ r. ⌜ r ≡ replicate listMost clearedRecord ⌝ }
+    ensures { λ r. ⌜ r ≡ replicate recordsMost clearedRecord ⌝ }
 {
     let cleared = cleared_record();
     [cleared; LIST_MOST]
@@ -32,12 +35,9 @@ fn cleared_list() -> [Record; LIST_MOST]
 
 // How much of the list is lent.
 fn room_within(room: usize) -> usize
-    ensures { λ r. ⌜ r ≡ roomWithin room ⌝ }
+    ensures { λ r. ⌜ r ≡ lentCount room recordsMost ⌝ }
 {
-    if LIST_MOST < room {
-        return LIST_MOST;
-    }
-    room
+    lent(room, LIST_MOST)
 }
 
 // The result.
@@ -52,11 +52,11 @@ fn with_list(answer: ReadingReply, list: [Record; LIST_MOST]) -> PackagesByValue
 
 // Packages into the first places of the list, so many as room says, and at most all.
 pub fn packages_by_value(s: State, store: &[u8], room: usize) -> PackagesByValue
-    ensures answer { λ r. ⌜ replyOf (r .answer) ≡ packagesReply (viewState s) (now (store .entry)) (roomWithin room) ⌝ }
-    ensures list { λ r. ⌜ r .list ≡ reportBuffer (replyOf (r .answer)) (listed s) (replicate listMost clearedRecord) ⌝ }
+    ensures answer { λ r. ⌜ replyOf (r .answer) ≡ packagesReply (viewState s) (now (store .entry)) (lentCount room recordsMost) ⌝ }
+    ensures list { λ r. ⌜ r .list ≡ reportBuffer (replyOf (r .answer)) (listed s) (replicate recordsMost clearedRecord) ⌝ }
 {
     let mut list = cleared_list();
-    let lent = room_within(room);
-    let answer = packages(s, store, &mut list[..lent]);
+    let count = room_within(room);
+    let answer = packages(s, store, &mut list[..count]);
     with_list(answer, list)
 }

@@ -15,6 +15,7 @@ use payload::payload_check;
 use progress::progress;
 use reading_reply::ReadingReply;
 use script::line::ScriptLine;
+use script_calls::lent::lent;
 use state::answer::Answer;
 use state::state::State;
 
@@ -24,17 +25,6 @@ fn in_32_bits(n: usize) -> u32 {
         return 4294967295;
     }
     n as u32
-}
-
-// How much of a buffer is lent: as much as a line says, and at most all.
-fn room_within(room: u32, most: usize) -> usize
-    ensures { λ r. ⌜ r ≤ most ⌝ }
-{
-    let n = room as usize;
-    if most < n {
-        return most;
-    }
-    n
 }
 
 // The reply of a reading call: a refusal, or its number by a name, which each caller has shorter than 20 bytes.
@@ -63,17 +53,17 @@ fn show_report(reply: ReadingReply, buffer: &[u8]) -> bool {
     show_text(&buffer[..n])
 }
 
-// ClusterInfo into the first bytes of a buffer.
+// ClusterInfo into the first bytes of a buffer, so many as the line says, and at most all.
 fn clusters_line(s: State, store: &[u8], room: u32, buffer: &mut [u8]) -> bool {
-    let lent = room_within(room, buffer.len());
-    let reply = cluster_info(s, store, &mut buffer[..lent]);
+    let count = lent(room as usize, buffer.len());
+    let reply = cluster_info(s, store, &mut buffer[..count]);
     show_report(reply, buffer)
 }
 
-// ChangeInfo into the first bytes of a buffer.
+// ChangeInfo into the first bytes of a buffer, likewise.
 fn changes_line(s: State, store: &[u8], room: u32, buffer: &mut [u8]) -> bool {
-    let lent = room_within(room, buffer.len());
-    let reply = change_info(s, store, &mut buffer[..lent]);
+    let count = lent(room as usize, buffer.len());
+    let reply = change_info(s, store, &mut buffer[..count]);
     show_report(reply, buffer)
 }
 

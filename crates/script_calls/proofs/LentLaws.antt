@@ -20,7 +20,7 @@ part-long l n h = sym (length-take-le n l h)
 
 -- ---- the bytes that are lent are the first of all, so many as are asked for
 
-count-most : (asked all : ℕ) → lentCount asked all ≤ all
+pub count-most : (asked all : ℕ) → lentCount asked all ≤ all
 unfolding lentCount
 count-most asked all =
     cond-cases (λ n. n ≤ all) (ltb all asked) all asked (λ t. omega arith) (λ f. ltb-false all asked f)

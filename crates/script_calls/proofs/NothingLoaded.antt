@@ -50,7 +50,7 @@ refused-call s bytes call u =
 pub refused-before-load : (k : Kept) (bytes : Store) (call : Call) → NothingLoaded k
     → calling call k bytes ≡ lineOutcome (nothingChanged (line-answer.Answer (Refused 1)) k) bytes
 refused-before-load k bytes call nothing =
-    let none-lent : k ≡ keeps (k .state) 0 = ap (keeps (k .state)) (nothing .no-bytes) in
+    let none-lent : k ≡ keeps (k .state) 0 = ap (keeps (k .state)) (nothing .noBytes) in
     ap (λ (q : Kept). calling call q bytes) none-lent
     ∙ refused-call (k .state) bytes call (nothing .unsound)
     ∙ ap (λ (q : Kept). lineOutcome (nothingChanged (line-answer.Answer (Refused 1)) q) bytes) (sym none-lent)

@@ -15,7 +15,7 @@ use Rattle.script_calls.specs.declared.kept.Played.{Played}
 -- "Until the first accepted Load the program holds a state that is not sound, and a store of no bytes."
 pub record NothingLoaded (k : Kept) : Type 0 where
   pub unsound : soundFor (viewState (k .state)) 0 ≡ false
-  pub no-bytes : k .«store_length» ≡ 0
+  pub noBytes : k .«store_length» ≡ 0
 
 abbrev pub keeps : State → ℕ → Kept
 keeps s n = record { state = s; «store_length» = n }

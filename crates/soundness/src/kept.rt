@@ -5,7 +5,6 @@ use areas::lookup::processing_place;
 use checksum::SUM_MOST;
 use clusters::table::Table;
 use state::limits::ENTRIES_MOST;
-use state::package::is_being_processed;
 use state::phase::Phase;
 use state::phase::is_processing;
 use state::session::Entry;

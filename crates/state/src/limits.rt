@@ -1,6 +1,4 @@
 // The limits of the manager's state: the one place in the code that has them.
-ghost use mathlib.Core.Path.{_≡_};
-ghost use Rattle.model.specs.Reading.{changeInfoMost};
 
 // The most packages.
 pub const PACKAGES_MOST: usize = 16;
@@ -13,12 +11,3 @@ pub const STORE_MOST: usize = 16777216;
 
 // The last transfer id. The next id above it says that all are spent.
 pub const ID_MOST: u64 = 4294967295;
-
-// The bytes of the longest ChangeInfo.
-pub const CHANGE_INFO_MOST: usize = 319;
-
-pub fn longest_change_info() -> usize
-    ensures { λ r. ⌜ r ≡ changeInfoMost ⌝ }
-{
-    CHANGE_INFO_MOST
-}

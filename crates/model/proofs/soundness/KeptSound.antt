@@ -27,7 +27,7 @@ use Rattle.model.proofs.store.StoreLength.{length-block-put, length-del
 use Rattle.model.proofs.soundness.Accepted.{first-passed, rest-passed, accepted-sound, accepted-allowed, accepted-own, read-is}
 use Rattle.model.proofs.soundness.SoundTransfers.{started-sound, kept-by-sound, changed-alone-sound}
 use Rattle.model.proofs.soundness.SoundProcessing.{begun-sound, continued-sound, noted-sound, left-sound, processed-sound}
-use Rattle.model.proofs.soundness.SoundSession.{rests-where, moved-sound, reported-sound}
+use Rattle.model.proofs.soundness.SoundSession.{rests-where, moved-sound, report-sound}
 
 -- state and store of an outcome are sound
 abbrev pub SoundAfter : Outcome → Type 0
@@ -166,7 +166,7 @@ module _ (s : State) (store : Store) where
   by-call activate ok h = moved-sound s store ok activating (rests-where activate refl (s .phase) (accepted-allowed s store activate h)) refl
   by-call rollback ok h = moved-sound s store ok (rollingBack _) (rests-where rollback refl (s .phase) (accepted-allowed s store rollback h)) refl
   by-call finish ok h = moved-sound s store ok (cleaningUp _) (rests-where finish refl (s .phase) (accepted-allowed s store finish h)) refl
-  by-call (report good) ok h = reported-sound s store ok (s .phase) refl good
+  by-call (report good) ok h = report-sound s store ok (s .phase) refl good
 
   pub kept-sound : (call : Call) → firstRefusal (refusals s store call) ≡ none
       → sound (act s store call .state) (act s store call .store) ≡ true

@@ -167,22 +167,22 @@ module _ (s : State) (store : Store) (ok : Sound s store) where
   same : (phase : Phase) → s .phase ≡ phase → Sound (state phase (s .transfers) (s .session) (s .work)) store
   same phase e = subst (λ (x : Phase). Sound (state x (s .transfers) (s .session) (s .work)) store) e ok
 
-  pub reported-sound : (phase : Phase) → s .phase ≡ phase → (good : Bool)
+  pub report-sound : (phase : Phase) → s .phase ≡ phase → (good : Bool)
       → Sound (reportOutcome s store phase good .state) (reportOutcome s store phase good .store)
   unfolding reportOutcome
-  reported-sound activating e good = to activating e refl (activatingPhase good (needsMet (staged (s .session)))) (rests-activating good (needsMet (staged (s .session))))
-  reported-sound verifying e true = to verifying e refl activated refl
-  reported-sound verifying e false = to verifying e refl verifying refl
-  reported-sound (rollingBack origin) e true = to (rollingBack origin) e refl rolledBack refl
-  reported-sound (rollingBack origin) e false = to (rollingBack origin) e refl (rollbackPhase origin) (rests-rollback origin)
-  reported-sound (cleaningUp readyCleansUp) e true = clean (cleaningUp readyCleansUp) e refl (s .session .beginning) (ok .beginning)
-  reported-sound (cleaningUp readyCleansUp) e false = to (cleaningUp readyCleansUp) e refl ready refl
-  reported-sound (cleaningUp activatedCleansUp) e true = clean (cleaningUp activatedCleansUp) e refl (staged (s .session)) (staged-within s store ok)
-  reported-sound (cleaningUp activatedCleansUp) e false = same (cleaningUp activatedCleansUp) e
-  reported-sound (cleaningUp rolledBackCleansUp) e true = clean (cleaningUp rolledBackCleansUp) e refl (s .session .beginning) (ok .beginning)
-  reported-sound (cleaningUp rolledBackCleansUp) e false = same (cleaningUp rolledBackCleansUp) e
-  reported-sound idle e good = same idle e
-  reported-sound ready e good = same ready e
-  reported-sound processing e good = same processing e
-  reported-sound activated e good = same activated e
-  reported-sound rolledBack e good = same rolledBack e
+  report-sound activating e good = to activating e refl (activatingPhase good (needsMet (staged (s .session)))) (rests-activating good (needsMet (staged (s .session))))
+  report-sound verifying e true = to verifying e refl activated refl
+  report-sound verifying e false = to verifying e refl verifying refl
+  report-sound (rollingBack origin) e true = to (rollingBack origin) e refl rolledBack refl
+  report-sound (rollingBack origin) e false = to (rollingBack origin) e refl (rollbackPhase origin) (rests-rollback origin)
+  report-sound (cleaningUp readyCleansUp) e true = clean (cleaningUp readyCleansUp) e refl (s .session .beginning) (ok .beginning)
+  report-sound (cleaningUp readyCleansUp) e false = to (cleaningUp readyCleansUp) e refl ready refl
+  report-sound (cleaningUp activatedCleansUp) e true = clean (cleaningUp activatedCleansUp) e refl (staged (s .session)) (staged-within s store ok)
+  report-sound (cleaningUp activatedCleansUp) e false = same (cleaningUp activatedCleansUp) e
+  report-sound (cleaningUp rolledBackCleansUp) e true = clean (cleaningUp rolledBackCleansUp) e refl (s .session .beginning) (ok .beginning)
+  report-sound (cleaningUp rolledBackCleansUp) e false = same (cleaningUp rolledBackCleansUp) e
+  report-sound idle e good = same idle e
+  report-sound ready e good = same ready e
+  report-sound processing e good = same processing e
+  report-sound activated e good = same activated e
+  report-sound rolledBack e good = same rolledBack e

@@ -37,24 +37,24 @@ module _ (s : State) (store : Store) where
     unfolding cleanedUp
     cleaned-long table = length-deleted (λ p. not (isProcessed (p .state))) (s .transfers .packages) store (ok .fit)
 
-    reported-long : (phase : Phase) (good : Bool) → AsLong (reportOutcome s store phase good)
+    report-long : (phase : Phase) (good : Bool) → AsLong (reportOutcome s store phase good)
     unfolding reportOutcome
-    reported-long (cleaningUp readyCleansUp) true = cleaned-long _
-    reported-long (cleaningUp activatedCleansUp) true = cleaned-long _
-    reported-long (cleaningUp rolledBackCleansUp) true = cleaned-long _
-    reported-long (cleaningUp readyCleansUp) false = refl
-    reported-long (cleaningUp activatedCleansUp) false = refl
-    reported-long (cleaningUp rolledBackCleansUp) false = refl
-    reported-long verifying true = refl
-    reported-long verifying false = refl
-    reported-long (rollingBack origin) true = refl
-    reported-long (rollingBack origin) false = refl
-    reported-long activating good = refl
-    reported-long idle good = refl
-    reported-long ready good = refl
-    reported-long processing good = refl
-    reported-long activated good = refl
-    reported-long rolledBack good = refl
+    report-long (cleaningUp readyCleansUp) true = cleaned-long _
+    report-long (cleaningUp activatedCleansUp) true = cleaned-long _
+    report-long (cleaningUp rolledBackCleansUp) true = cleaned-long _
+    report-long (cleaningUp readyCleansUp) false = refl
+    report-long (cleaningUp activatedCleansUp) false = refl
+    report-long (cleaningUp rolledBackCleansUp) false = refl
+    report-long verifying true = refl
+    report-long verifying false = refl
+    report-long (rollingBack origin) true = refl
+    report-long (rollingBack origin) false = refl
+    report-long activating good = refl
+    report-long idle good = refl
+    report-long ready good = refl
+    report-long processing good = refl
+    report-long activated good = refl
+    report-long rolledBack good = refl
 
     by-call : (call : Call) → firstRefusal (ownRefusals s store call) ≡ none → AsLong (act s store call)
     unfolding act ownRefusals
@@ -65,7 +65,7 @@ module _ (s : State) (store : Store) where
         let l = or-right-false (ltb (length block) 1) (ltb (p .size) (p .received + length block)) (first-passed _ _ h7) in
         length-block-put id block ps p store (known-is id ps (first-passed _ _ h)) (ltb-false _ _ l) (ok .fit)
     by-call (deleteTransfer id) h = length-deleted (λ p. not (eqb id (p .id))) (s .transfers .packages) store (ok .fit)
-    by-call (report good) h = reported-long (s .phase) good
+    by-call (report good) h = report-long (s .phase) good
     by-call (work n) h = go (s .work)
       where
         go : (o : Option Work) → AsLong (elim o [ none ↦ movesTo s store (s .phase) done | some w ↦ worked s store w n ])

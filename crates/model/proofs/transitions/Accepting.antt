@@ -1,5 +1,5 @@
 -- A call of which no refusal applies is one of the accepted transitions: `accepted-is`. Assumes nothing.
-use mathlib.Core.Path.{_≡_, refl, sym, subst}
+use mathlib.Core.Path.{_≡_, refl, sym, subst, _∙_}
 use mathlib.Core.Bool.{Bool, true, false, false≢true}
 use mathlib.Core.Option.{Option, none, some}
 use Prim.Native.Nat.{ℕ, _+_}
@@ -166,34 +166,30 @@ module _ (t : Transfers) (session : Session) (store : Store) where
     | cleaningUp origin ↦ λ e. cleaning-up-is origin k good
   ]
 
--- Work and Cancel are allowed in Processing
+-- a test that fails in every other state holds in Processing alone
+processing-alone : (test : Phase → Bool) → test idle ≡ false → test ready ≡ false → test activating ≡ false → test verifying ≡ false
+    → test activated ≡ false → ((origin : RollbackOrigin) → test (rollingBack origin) ≡ false) → test rolledBack ≡ false
+    → ((origin : CleanUpOrigin) → test (cleaningUp origin) ≡ false) → (phase : Phase) → test phase ≡ true → phase ≡ processing
+processing-alone test i r a v d b l c phase = elim phase [
+  | idle ↦ λ e. absurd (false≢true (sym i ∙ e))
+  | ready ↦ λ e. absurd (false≢true (sym r ∙ e))
+  | processing ↦ λ e. refl
+  | activating ↦ λ e. absurd (false≢true (sym a ∙ e))
+  | verifying ↦ λ e. absurd (false≢true (sym v ∙ e))
+  | activated ↦ λ e. absurd (false≢true (sym d ∙ e))
+  | rollingBack origin ↦ λ e. absurd (false≢true (sym (b origin) ∙ e))
+  | rolledBack ↦ λ e. absurd (false≢true (sym l ∙ e))
+  | cleaningUp origin ↦ λ e. absurd (false≢true (sym (c origin) ∙ e))
+]
+
+-- "Work and Cancel are allowed in Processing"
 may-work : (phase : Phase) (n : ℕ) → allowed phase (work n) ≡ true → phase ≡ processing
 unfolding allowed
-may-work phase n = elim phase [
-  | idle ↦ λ e. absurd (false≢true e)
-  | ready ↦ λ e. absurd (false≢true e)
-  | processing ↦ λ e. refl
-  | activating ↦ λ e. absurd (false≢true e)
-  | verifying ↦ λ e. absurd (false≢true e)
-  | activated ↦ λ e. absurd (false≢true e)
-  | rollingBack origin ↦ λ e. absurd (false≢true e)
-  | rolledBack ↦ λ e. absurd (false≢true e)
-  | cleaningUp origin ↦ λ e. absurd (false≢true e)
-]
+may-work phase n = processing-alone (λ p. allowed p (work n)) refl refl refl refl refl (λ origin. refl) refl (λ origin. refl) phase
 
 may-cancel : (phase : Phase) (id : ℕ) → allowed phase (cancel id) ≡ true → phase ≡ processing
 unfolding allowed
-may-cancel phase id = elim phase [
-  | idle ↦ λ e. absurd (false≢true e)
-  | ready ↦ λ e. absurd (false≢true e)
-  | processing ↦ λ e. refl
-  | activating ↦ λ e. absurd (false≢true e)
-  | verifying ↦ λ e. absurd (false≢true e)
-  | activated ↦ λ e. absurd (false≢true e)
-  | rollingBack origin ↦ λ e. absurd (false≢true e)
-  | rolledBack ↦ λ e. absurd (false≢true e)
-  | cleaningUp origin ↦ λ e. absurd (false≢true e)
-]
+may-cancel phase id = processing-alone (λ p. allowed p (cancel id)) refl refl refl refl refl (λ origin. refl) refl (λ origin. refl) phase
 
 -- ---- all of them
 

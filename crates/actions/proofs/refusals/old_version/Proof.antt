@@ -1,6 +1,6 @@
 -- `actions::refusals::old_version` meets its contract: nothing staged is not old, and otherwise a case for each change. Assumes nothing.
 use borrow.Author.Needs.{needs}
-use mathlib.Core.Path.{_≡_, refl, sym, ap, _∙_}
+use mathlib.Core.Path.{refl, sym, ap, _∙_}
 use mathlib.Core.Bool.{not}
 use Rattle.actions.specs.declared.action.Change.the-variants.{Install, Update, Remove}
 use Rattle.actions.specs.Refusals.{oldVersion}

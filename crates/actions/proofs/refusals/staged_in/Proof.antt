@@ -1,7 +1,7 @@
 -- `actions::refusals::staged_in` meets its contract: the cluster at the place found is the one with the part number. Assumes nothing.
 use borrow.Author.Needs.{needs}
 use native.Mathlib.Omega.{arith}
-use mathlib.Core.Path.{_≡_, sym, ap, _∙_}
+use mathlib.Core.Path.{sym, ap, _∙_}
 use Rattle.clusters.proofs.Placing.{FoundIn, found-in, nothing-found}
 use Rattle.actions.specs.Staged.{stagedAs}
 use Rattle.actions.proofs.refusals.staged_in.Statement.{statement}

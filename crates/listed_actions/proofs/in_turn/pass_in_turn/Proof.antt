@@ -18,11 +18,11 @@ use Rattle.actions.specs.Action.{Action, actionsWithin}
 use Rattle.actions.specs.Refusals.{passInTurn}
 use Rattle.actions.specs.Staged.{stagedAs}
 use Rattle.actions.proofs.StagedLaws.{part-of}
-use Rattle.state.specs.View.{entriesMost}
+use Rattle.state.specs.View.{entriesMost, noEntry}
 use Rattle.listed_actions.specs.Listed.{entryAction, listedActions}
 use Rattle.listed_actions.specs.InTurn.{passesUntouched, stagedAfter, passInTurnOn, stagedAt}
 use Rattle.listed_actions.proofs.Untouched.{pass-in-turn-is}
-use Rattle.listed_actions.proofs.ColumnTurn.{noEntry, place-or-first-below, staged-by-place, zero-untouched, at-most-one-more, stops-touched, stops-refused, goes-on}
+use Rattle.listed_actions.proofs.ColumnTurn.{place-or-first-below, staged-by-place, zero-untouched, at-most-one-more, stops-touched, stops-refused, goes-on}
 use Rattle.listed_actions.proofs.in_turn.pass_in_turn.Statement.{statement}
 use Rattle.listed_actions.proofs.in_turn.pass_in_turn.Tie as tie
 

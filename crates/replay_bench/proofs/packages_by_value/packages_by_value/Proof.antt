@@ -68,9 +68,11 @@ use Rattle.reading_reply.proofs.ReadingReply as S
 use Rattle.reading_reply.proofs.ReadingReply.Laws as S′
 use Rattle.replay_bench.specs.declared.packages_by_value.PackagesByValue.{PackagesByValue}
 use Rattle.packages_report.specs.Packages.{listed, packagesReply, viewList, packagesGiven}
-use Rattle.replay_bench.specs.LentList.{listMost, roomWithin}
+use Rattle.script.specs.Limits.{recordsMost}
+use Rattle.script_calls.specs.Line.{lentCount}
+use Rattle.script_calls.proofs.LentLaws.{count-most}
 use Rattle.packages_report.proofs.PackagesArray.{packages-array}
-use Rattle.replay_bench.proofs.Lent.{room-within-most, lent-given}
+use Rattle.replay_bench.proofs.Lent.{lent-given}
 use Rattle.replay_bench.proofs.packages_by_value.PackagesByValue as T
 use Rattle.replay_bench.proofs.packages_by_value.PackagesByValue.Laws as T′
 use Rattle.replay_bench.proofs.packages_by_value.cleared_list as cleared-list
@@ -173,10 +175,10 @@ module _ {M : Type 1} (𝓤 : URA M) (H : Heap 𝓤) (A : Atoms 𝓤) (W : Given
 
   -- how many places are lent
   abbrev n : ℕ
-  n = roomWithin room
+  n = lentCount room recordsMost
 
   n-fits : n < 2 ^ 64
-  n-fits = omega (arith, room-within-most room)
+  n-fits = omega (arith, count-most room recordsMost)
 
   long : length (m .transfers .packages) ≡ packagesMost
   long = packages-array m _ is-m
@@ -200,8 +202,8 @@ module _ {M : Type 1} (𝓤 : URA M) (H : Heap 𝓤) (A : Atoms 𝓤) (W : Given
   ask-cleared : ent 𝓤 (emp 𝓤) (ClearedList 𝓤 H A mem′ run .pre to-cleared)
   ask-cleared = qed W [] ∵ nothing ! $ nothing ! $ join ! $ frame ! $ done !
 
-  cleared-said : (xs : List Record) → ent 𝓤 (ensured 𝓤 H A cleared-list.ended (cleared-list.clauses 𝓤 H A mem′ run) tt tt tt xs) (fact 𝓤 (xs ≡ replicate listMost clearedRecord))
-  cleared-said xs = exE 𝓤 _ (λ ws. snd∗ 𝓤 (sem 𝓤 H A (lasts cleared-list.ended tt tt ws)) (fact 𝓤 (xs ≡ replicate listMost clearedRecord)))
+  cleared-said : (xs : List Record) → ent 𝓤 (ensured 𝓤 H A cleared-list.ended (cleared-list.clauses 𝓤 H A mem′ run) tt tt tt xs) (fact 𝓤 (xs ≡ replicate recordsMost clearedRecord))
+  cleared-said xs = exE 𝓤 _ (λ ws. snd∗ 𝓤 (sem 𝓤 H A (lasts cleared-list.ended tt tt ws)) (fact 𝓤 (xs ≡ replicate recordsMost clearedRecord)))
 
   -- the call of `room_within`
   abbrev to-within : RoomWithin 𝓤 H A mem′ run .Ghost
@@ -229,7 +231,7 @@ module _ {M : Type 1} (𝓤 : URA M) (H : Heap 𝓤) (A : Atoms 𝓤) (W : Given
   Replies r = replyOf r ≡ packagesReply (viewState m) (store .now) n
 
   abbrev Leaves : Reply → List Record → Type 0
-  Leaves r zs = zs ≡ reportBuffer (replyOf r) (listed m) (replicate listMost clearedRecord)
+  Leaves r zs = zs ≡ reportBuffer (replyOf r) (listed m) (replicate recordsMost clearedRecord)
 
   exits : (t : PackagesByValue) (v : Val) → Replies (t .answer) → Leaves (t .answer) (t .list) → ent 𝓤 (⋆ 𝓤 H A ((‵ (flft κ q) ⊛ ‵ ftrue) ∷ ‵ (T.the-row .own t (v ∷ [])) ∷ [])) (Post v)
   exits t v e f =
@@ -251,13 +253,13 @@ module _ {M : Type 1} (𝓤 : URA M) (H : Heap 𝓤) (A : Atoms 𝓤) (W : Given
     others = behind n xs
 
     inside : n ≤ length xs
-    inside = subst (λ (k : ℕ). n ≤ k) (sym all-xs) (room-within-most room)
+    inside = subst (λ (k : ℕ). n ≤ k) (sym all-xs) (count-most room recordsMost)
 
     len-ys : length ys ≡ n
     len-ys = rw length-take (omega (arith, inside))
 
     bytes : n * 16 < 2 ^ 63
-    bytes = omega (arith, room-within-most room)
+    bytes = omega (arith, count-most room recordsMost)
 
     room-ys : Room R.the-row (length ys)
     room-ys = subst (Room R.the-row) (sym len-ys) (n-fits, bytes)
@@ -292,12 +294,12 @@ module _ {M : Type 1} (𝓤 : URA M) (H : Heap 𝓤) (A : Atoms 𝓤) (W : Given
     Exact r zs = zs ≡ reportBuffer (replyOf r) (listed m) ys
 
     -- what was said of the part that was lent, of the whole list
-    concludes : xs ≡ replicate listMost clearedRecord → (r : Reply) (zs : List Record) → Meaning r zs → Exact r zs
+    concludes : xs ≡ replicate recordsMost clearedRecord → (r : Reply) (zs : List Record) → Meaning r zs → Exact r zs
         → (t : PackagesByValue) (v : Val) → t .answer ≡ r → t .list ≡ zs ++ others → ent 𝓤 (⋆ 𝓤 H A ((‵ (flft κ q) ⊛ ‵ ftrue) ∷ ‵ (T.the-row .own t (v ∷ [])) ∷ [])) (Post v)
     concludes cleared r zs e f t v same list =
         let said = lent-given m long xs n inside (store .now) r zs e f in
         exits t v (ap replyOf same ∙ said .0)
-        (list ∙ said .1 ∙ ap (λ (l : List Record). reportBuffer (replyOf r) (listed m) l) cleared ∙ ap (λ (x : Reply). reportBuffer (replyOf x) (listed m) (replicate listMost clearedRecord)) (sym same))
+        (list ∙ said .1 ∙ ap (λ (l : List Record). reportBuffer (replyOf r) (listed m) l) cleared ∙ ap (λ (x : Reply). reportBuffer (replyOf x) (listed m) (replicate recordsMost clearedRecord)) (sym same))
 
   module _ (C : Calls 𝓤 H) (Λ : Loops 𝓤 H) (fm : FmC 𝓤 H (W .laws) C) (known-cleared : Triple 𝓤 (C #cleared-list) (ClearedList 𝓤 H A mem′ run)) (known-within : Triple 𝓤 (C #room-within) (RoomWithin 𝓤 H A mem′ run)) (known-packages : Triple 𝓤 (C #packages) (Packages 𝓤 H A mem′ run)) (known-list : Triple 𝓤 (C #with-list) (WithList 𝓤 H A mem′ run)) where
     walk : ent 𝓤 (onEntry 𝓤 H A by-value.signature (κ, tt) (q, tt) a vals) (WpFn 𝓤 H C Λ code.function (mv ∷ sv ∷ vint w64 room ∷ []) Post)
@@ -309,7 +311,7 @@ module _ {M : Type 1} (𝓤 : URA M) (H : Heap 𝓤) (A : Atoms 𝓤) (W : Given
         use0 W (raw (ClearedList 𝓤 H A mem′ run .pre to-cleared)) ask-cleared $
         calls-at ! fm (ClearedList 𝓤 H A mem′ run) known-cleared to-cleared (no-more !) (λ xv.
         use1 W (later (some (λ (xs : List Record). (‵ ftrue ⊛ ‵ (Array R.the-row 64 .own xs (xv ∷ []))) ⊛ raw (ensured 𝓤 H A cleared-list.ended (cleared-list.clauses 𝓤 H A mem′ run) tt tt tt xs)))) (id⊢ 𝓤 _) $ await ! tt $ pick ! (λ xs.
-        split ! $ move ! (1 ∷ []) $ use1 W (raw (fact 𝓤 (xs ≡ replicate listMost clearedRecord))) (cleared-said xs) $ heard ! (xs ≡ replicate listMost clearedRecord) (λ e₀. split ! $ move ! (1 ∷ []) $
+        split ! $ move ! (1 ∷ []) $ use1 W (raw (fact 𝓤 (xs ≡ replicate recordsMost clearedRecord))) (cleared-said xs) $ heard ! (xs ≡ replicate recordsMost clearedRecord) (λ e₀. split ! $ move ! (1 ∷ []) $
         peeks ! (Array R.the-row 64) (Is (Array R.the-row 64)) (shows 𝓤 H A (Array R.the-row 64)) xs (xv ∷ []) (λ is₀.
         land ! (from ! (stop !)) (init ! 6 {τ = arr} refl (typed 𝓤 H A W l₇ xs xv is₀)) $
         assigns ! (of-opd ! (load ! (from ! (stop !)) (look ! 6 refl))) (from ! (stop !)) (init ! 12 {τ = arr} refl (typed 𝓤 H A W l₄ xs xv is₀)) $

@@ -1,17 +1,17 @@
 -- `replay_bench::reading::changes_line` is safe: what is lent is a part of the buffer. Assumes nothing.
 use borrow.Author.Needs.{needs}
-use Rattle.script_calls.proofs.LentLaws.{part-long}
+use Rattle.script_calls.proofs.LentLaws.{lent-within, lent-long}
 use Rattle.replay_bench.proofs.reading.changes_line.Statement.{statement}
 use Rattle.replay_bench.proofs.reading.changes_line.Tie as tie
 
-room-within-requires : tie.Need-room-within-requires
-room-within-requires c κs = search needs
+lent-requires : tie.Need-lent-requires
+lent-requires c κs = search needs
 
 slice-relend-prefix-change-info : tie.Need-slice-relend-prefix-change-info
-slice-relend-prefix-change-info c = search needs
+slice-relend-prefix-change-info c = search lent-within
 
 slice-aggregate-change-info : tie.Need-slice-aggregate-change-info
-slice-aggregate-change-info c = search part-long
+slice-aggregate-change-info c = search lent-long
 
 change-info-requires : tie.Need-change-info-requires
 change-info-requires c κs = search needs
@@ -29,7 +29,7 @@ pub changes-line-spec : {M : Type 1} → statement M
 changes-line-spec =
     tie.close
     (tie.spec
-    room-within-requires
+    lent-requires
     slice-relend-prefix-change-info
     slice-aggregate-change-info
     change-info-requires

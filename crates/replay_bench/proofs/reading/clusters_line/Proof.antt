@@ -1,17 +1,17 @@
 -- `replay_bench::reading::clusters_line` is safe: what is lent is a part of the buffer. Assumes nothing.
 use borrow.Author.Needs.{needs}
-use Rattle.script_calls.proofs.LentLaws.{part-long}
+use Rattle.script_calls.proofs.LentLaws.{lent-within, lent-long}
 use Rattle.replay_bench.proofs.reading.clusters_line.Statement.{statement}
 use Rattle.replay_bench.proofs.reading.clusters_line.Tie as tie
 
-room-within-requires : tie.Need-room-within-requires
-room-within-requires c κs = search needs
+lent-requires : tie.Need-lent-requires
+lent-requires c κs = search needs
 
 slice-relend-prefix-cluster-info : tie.Need-slice-relend-prefix-cluster-info
-slice-relend-prefix-cluster-info c = search needs
+slice-relend-prefix-cluster-info c = search lent-within
 
 slice-aggregate-cluster-info : tie.Need-slice-aggregate-cluster-info
-slice-aggregate-cluster-info c = search part-long
+slice-aggregate-cluster-info c = search lent-long
 
 cluster-info-requires : tie.Need-cluster-info-requires
 cluster-info-requires c κs = search needs
@@ -29,7 +29,7 @@ pub clusters-line-spec : {M : Type 1} → statement M
 clusters-line-spec =
     tie.close
     (tie.spec
-    room-within-requires
+    lent-requires
     slice-relend-prefix-cluster-info
     slice-aggregate-cluster-info
     cluster-info-requires

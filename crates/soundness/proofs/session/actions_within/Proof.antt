@@ -9,9 +9,8 @@ use lib.ListN.{length, drop, getD}
 use Rattle.base.proofs.Counted.{unmapped, from-step, from-end}
 use Rattle.base.proofs.Ladder.{told-no, told-yes}
 use Rattle.actions.specs.Action.{actionsWithin}
-use Rattle.state.specs.View.{entriesMost}
+use Rattle.state.specs.View.{entriesMost, noEntry}
 use Rattle.listed_actions.specs.Listed.{entryAction, listedActions}
-use Rattle.listed_actions.proofs.ColumnTurn.{noEntry}
 use Rattle.soundness.proofs.session.actions_within.Statement.{statement}
 use Rattle.soundness.proofs.session.actions_within.Tie as tie
 

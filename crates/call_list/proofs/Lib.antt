@@ -5,3 +5,4 @@ pub mod RowCall
 pub mod ListLaws
 pub mod RunWays
 pub mod LoadedWays
+pub mod Examples

@@ -142,6 +142,22 @@ pub words-fit : (calls : List Call) → ((call : Call) → List·Memᴰ call cal
     → AllFit w32 (encodedRows calls)
 words-fit calls numbers short = rows-fit 0 calls numbers (fits-le (omega arith) short)
 
+-- no call is asked for more: where the words of a call fit a `u32` slice, its numbers fit
+pub numbers-fit : (call : Call) → AllFit w32 (encodedRows (call ∷ [])) → NumbersFit call
+unfolding encodedFrom encodedRow NumbersFit
+numbers-fit (transferStart size) words = words 2
+numbers-fit (transferData id counter block) words = (words 2, words 3)
+numbers-fit (transferExit id) words = words 2
+numbers-fit (deleteTransfer id) words = words 2
+numbers-fit (process id) words = words 2
+numbers-fit (work n) words = words 2
+numbers-fit (cancel id) words = words 2
+numbers-fit revert words = tt
+numbers-fit activate words = tt
+numbers-fit rollback words = tt
+numbers-fit finish words = tt
+numbers-fit (report good) words = tt
+
 -- and its bytes a `u8` slice
 pub bytes-fit : (calls : List Call) → ((call : Call) → List·Memᴰ call calls → AllFit w8 (blockIn call))
     → AllFit w8 (encodedBytes calls)

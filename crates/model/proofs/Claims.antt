@@ -157,6 +157,14 @@ module _ (given : State) (list : List ℕ) (first : ℕ) (lent : Store)
   every-list-ends-in-a-session calls =
       last-session (loaded .state) (loaded .store) calls (sym (load-invariant given list first lent is-accepted .tables .atIdle))
 
+  -- so after every list B is the running table of the Idle state that the list's last session began from
+  pub B-is-the-table-of-the-last-session : (calls : List Call)
+      → journalOf calls .B ≡ running (after (every-list-ends-in-a-session calls .before) .state)
+  B-is-the-table-of-the-last-session calls =
+      let last = every-list-ends-in-a-session calls in
+      subst (λ (l : List Call). journalOf l .B ≡ running (after (last .before) .state)) (last .joined)
+      (B-is-the-table-when-the-session-began (last .before) (last .session) (last .began) (last .goesOn))
+
   -- the call that returns to Idle, after a list of calls that does not end in Idle
   returning : (calls : List Call) (call : Call) → isIdle (after calls .state .phase) ≡ false
       → isIdle (after (calls ++ call ∷ []) .state .phase) ≡ true

@@ -9,6 +9,8 @@ use native.Mathlib.Omega.{arith}
 use lib.ListN.{length, take}
 use borrow.Author.Tests.{not-true, not-false}
 use Rattle.model.specs.State.{Store}
+use Rattle.model.specs.Calls.{Call}
+use Rattle.state.specs.declared.answer.Answer.the-variants.{Refused}
 use Rattle.script.specs.declared.gathered.Gathered.{Gathered}
 use Rattle.script.specs.declared.line.ScriptLine.{ScriptLine}
 use Rattle.script.specs.Gathered.{nothingGathered, lineSoFar, withPart}
@@ -16,18 +18,30 @@ use Rattle.script.specs.Line.{scriptLineAt}
 use Rattle.script.proofs.GatheredLaws.{so-far-too-long, so-far-past, so-far, nothing-so-far}
 use Rattle.script_calls.specs.declared.kept.Kept.{Kept}
 use Rattle.script_calls.specs.declared.kept.Played.{Played}
-use Rattle.script_calls.specs.Kept.{lineOutcome}
-use Rattle.script_calls.specs.Line.{lineGives}
+use Rattle.script_calls.specs.declared.kept.LineAnswer.the-variants as line-answer
+use Rattle.script_calls.specs.Kept.{nothingChanged, LineOutcome, lineOutcome}
+use Rattle.script_calls.specs.Line.{calling, lineGives}
+use Rattle.script_calls.proofs.NothingLoaded.{refused-before-load}
 use Rattle.replay_bench.specs.declared.bench.Bench.{Bench}
 use Rattle.replay_bench.specs.declared.play.AfterLine.{AfterLine}
 use Rattle.replay_bench.specs.Bench.{NothingRead, benchAfter, lineAfter, Held, held, heldAfter, afterText, afterLine, afterGathered, between, reading, endsLine, afterLinePart, afterPart}
 use Rattle.script_calls.proofs.LentLaws.{part-long}
 
--- before the first read no line is being gathered
-pub first-reading : (b : Bench) (line : List ℕ) (bytes : Store) → NothingRead b
-    → reading b line bytes ≡ between (held (b .kept) bytes) (some [])
-first-reading b line bytes nothing =
-    ap (λ (l : Option (List ℕ)). between (held (b .kept) bytes) l) (ap (λ (g : Gathered). lineSoFar g line) (nothing .gathered) ∙ nothing-so-far line)
+-- ---- before the first read
+
+module _ (b : Bench) (nothing : NothingRead b) where
+  -- the program goes on
+  pub first-goes : b .«goes_on» ≡ true
+  first-goes = nothing .goes
+
+  -- a line of no bytes is gathered
+  pub first-line : (line : List ℕ) → lineSoFar (b .gathered) line ≡ some []
+  first-line line = ap (λ (g : Gathered). lineSoFar g line) (nothing .gathered) ∙ nothing-so-far line
+
+  -- each of the twelve calls is refused by 1
+  pub first-refused : (bytes : Store) (call : Call)
+      → calling call (b .kept) bytes ≡ lineOutcome (nothingChanged (line-answer.Answer (Refused 1)) (b .kept)) bytes
+  first-refused bytes call = refused-before-load (b .kept) bytes call (nothing .loaded)
 
 -- ---- parts of a line
 

@@ -49,11 +49,10 @@ fn read_some(
     requires { ⌜ bench .«goes_on» ≡ true ⌝ }
 {
     let got = libc::read(STDIN_FILENO, input);
-    if got < 0 {
-        return stopped(bench);
-    }
     if got == 0 {
         take_end(bench);
+    }
+    if got < 1 {
         return stopped(bench);
     }
     let count = io::count(got, input);

@@ -1,34 +1,46 @@
 -- What a search for the package with an id says to a call on a sound state. Where it finds nothing the id is unknown. Where it finds a
--- place, the model's package with the id is the one there, and its area lies in the store and has the model's bytes. Assumes nothing.
+-- place, the model's package with the id is the one there, and its area lies in the store and has the model's bytes. Where it answers a
+-- number the call is refused by it. Assumes nothing.
 use Prim.Native.Nat.{ℕ, _+_, _-_, _≤_, _<_}
 use mathlib.Core.Path.{_≡_, refl, sym, ap, _∙_}
-use mathlib.Core.Bool.{true, cond}
+use mathlib.Core.Bool.{Bool, true, false, cond, _&&_}
 use mathlib.Core.List.{List, [], _∷_}
 use mathlib.Core.Option.{none, some}
 use native.Mathlib.Omega.{arith}
+use lib.Dec.{eqb}
 use lib.ListN.{length, take, drop}
 use borrow.Author.Tests.{le-leb, leb-true}
+use Rattle.base.specs.Refusals.{Refusal, refuse_when_, firstRefusal, numberOrZero}
 use Rattle.base.proofs.Tests.{bool-cases}
+use Rattle.base.proofs.RefusalNumbers.{zero-none}
 use Rattle.place_in_list.specs.declared.Found.{Found}
 use Rattle.place_in_list.specs.declared.Found.the-variants.{At, Nothing}
 use Rattle.place_in_list.specs.Place.{firstPlace, foundIn}
 use Rattle.place_in_list.proofs.Placed as placed
 use Rattle.place_in_list.proofs.Placed.{holds-at-place}
 use Rattle.model.specs.State as model
-use Rattle.model.specs.State.{Store}
+use Rattle.model.specs.State.{Store, isProcessing}
+use Rattle.model.specs.Calls.{Call, callNumber}
+use Rattle.model.specs.Permissions.{allowed}
 use Rattle.model.specs.Areas.{declared, find, areaStart, areaOf, isTransferring}
 use Rattle.model.specs.Sound.{packagesMost, receivedSound, sound}
-use Rattle.model.specs.Step.{unknown}
+use Rattle.model.specs.Step.{unknown, ownRefusals, furtherRefusals}
+use Rattle.model.proofs.soundness.Accepted.{first-passed}
 use Rattle.model.proofs.soundness.SoundFacts.{sound-says}
-use Rattle.model.proofs.soundness.Packages.{found-fine}
+use Rattle.model.proofs.soundness.Packages.{found-fine, found-known}
 use Rattle.model.proofs.soundness.FinePackage.{part, whole}
 use Rattle.model.proofs.store.AreaStart.{area-inside, area-at-start}
 use Rattle.model.proofs.store.PackageAtIndex.{FirstAt, here, there, first-below, first-found, first-start}
+use Rattle.state.specs.declared.answer.Answered.{Answered}
 use Rattle.state.specs.declared.transfers.Transfers.{Transfers}
 use Rattle.state.specs.declared.state.State.{State}
-use Rattle.state.specs.View.{viewPackage, clearedPackage, viewPackages, viewState}
+use Rattle.state.specs.View.{viewPackage, clearedPackage, viewPackages, viewPhase, viewState}
+use Rattle.state.specs.Permissions.{allowedNumber}
+use Rattle.state.specs.Outcome.{Outcome, outcome, refusedBy, settled, calledOnSound}
 use Rattle.state.proofs.Views.{packages-fit}
+use Rattle.state.proofs.Ways.{refuse-number, pass-first, pass-permitted}
 use Rattle.areas.specs.Place.{hasId, placeOf}
+use Rattle.areas.specs.Named.{namedRefusals}
 use Rattle.areas.specs.Inside.{AreaInside}
 use Rattle.areas.specs.Changed.{packageAt}
 use Rattle.state.proofs.PackagesAlong.{packages-length, package-at}
@@ -69,6 +81,14 @@ nothing-found id ps e = sym (found-is id ps Nothing (sym e))
 -- "4. InvalidTransferId: no package has the id": r is what `find` gave
 pub nothing-unknown : (r : Found) (id : ℕ) (ps : List model.Package) → r ≡ placeOf id ps → r ≡ Nothing → unknown id ps ≡ true
 nothing-unknown r id ps e f = rw (unknown, nothing-found id ps (sym e ∙ f))
+
+-- where a place is found it is that of the package, and the id is known
+module _ (r : Found) (id i : ℕ) (ps : List model.Package) (e : r ≡ placeOf id ps) (f : r ≡ At i) where
+  pub place-of-found : placeOf id ps ≡ At i
+  place-of-found = sym e ∙ f
+
+  pub place-known : unknown id ps ≡ false
+  place-known = found-known id ps _ (first-found (place-first id ps i place-of-found) (viewPackage clearedPackage))
 
 -- ---- a package found
 
@@ -132,3 +152,30 @@ found-at s store id i r ok long e f =
       received = received-within p (fine .received);
       blocks = fine .blocks;
     }
+
+-- ---- a package named
+
+-- a number that the first two give is that of the whole list
+first-two : (unpermitted unnamed : Bool) (rest : List Refusal) (n : ℕ)
+    → n ≡ numberOrZero (firstRefusal ((refuse 3 when unpermitted) ∷ (refuse 4 when unnamed) ∷ [])) → (n ≡ 0 → ⊥)
+    → n ≡ numberOrZero (firstRefusal ((refuse 3 when unpermitted) ∷ (refuse 4 when unnamed) ∷ rest))
+unfolding firstRefusal
+first-two true unnamed rest n e f = e
+first-two false true rest n e f = e
+first-two false false rest n e f = absurd (f e)
+
+-- n is the number that was given for a call that is not busy
+module _ (s : State) (store : Store) (call : Call) (o : Outcome) (id n : ℕ)
+    (free : eqb (callNumber call) 4 && isProcessing (viewPhase (s .phase)) ≡ false)
+    (e : n ≡ numberOrZero (firstRefusal (namedRefusals (viewPhase (s .phase)) (viewPackages (s .transfers)) (callNumber call) id))) where
+  -- a call whose own refusals begin with 4 is refused by it
+  pub refuse-named : (rest : List Refusal) (a : Answered)
+      → ownRefusals (viewState s) store call ≡ (refuse 4 when unknown id (viewPackages (s .transfers))) ∷ rest
+      → (n ≡ 0 → ⊥) → a ≡ refusedBy s n → outcome a store ≡ calledOnSound s store call o
+  unfolding calledOnSound furtherRefusals allowed allowedNumber
+  refuse-named rest a own f g =
+      pass-first s store 2 _ _ o _ free (rw own (refuse-number s store _ n a o (first-two _ _ rest n e f) f g))
+
+  pub pass-named : (given : Outcome) → n ≡ 0 → given ≡ settled s store (firstRefusal (ownRefusals (viewState s) store call)) o
+      → given ≡ calledOnSound s store call o
+  pass-named given zero f = pass-permitted s store call o _ free refl given (first-passed _ _ (zero-none _ refl (sym zero ∙ e))) f

@@ -3,3 +3,4 @@ pub mod Changed
 pub mod Inside
 pub mod FirstPlaces
 pub mod Deletion
+pub mod Named

@@ -1,14 +1,21 @@
-// Where the package with an id stands, and the one that is processing. A sound state meets what is required.
+// Where the package with an id stands, the one that a call names, and the one that is processing. A sound state meets what is required.
 use place_in_list::Found;
+use refusal::INVALID_TRANSFER_ID;
+use refusal::OPERATION_NOT_PERMITTED;
 use state::package::is_being_processed;
+use state::permissions::allowed;
+use state::phase::Phase;
 use state::transfers::Transfers;
 ghost use mathlib.Core.Path.{_≡_};
 ghost use Prim.Native.Nat.{_≤_};
+ghost use Rattle.base.specs.Refusals.{firstRefusal, numberOrZero};
+ghost use Rattle.place_in_list.specs.declared.Found.the-variants.{At};
 ghost use Rattle.place_in_list.specs.Place.{foundIn};
 ghost use Rattle.model.specs.Areas.{find};
 ghost use Rattle.model.specs.Sound.{packagesMost};
-ghost use Rattle.state.specs.View.{viewPackages};
+ghost use Rattle.state.specs.View.{viewPackages, viewPhase};
 ghost use Rattle.areas.specs.Place.{placeOf, processingPlace};
+ghost use Rattle.areas.specs.Named.{namedRefusals};
 
 // The place of the package with an id.
 pub fn find(t: Transfers, id: u32) -> Found
@@ -26,6 +33,36 @@ pub fn find(t: Transfers, id: u32) -> Found
         i += 1;
     }
     Found::Nothing
+}
+
+// The number of the first of the refusals 3 and 4 that applies, or 0, and the place of the package, which is 0 when refused.
+pub struct NamedPackage {
+    pub number: u32,
+    pub place: usize,
+}
+
+// The package with an id, for the call with a number in a manager's state.
+pub fn named_package(phase: Phase, t: Transfers, call: usize, id: u32) -> NamedPackage
+    requires { ⌜ t .count ≤ packagesMost ⌝ }
+    ensures number { λ r. ⌜ r .number ≡ numberOrZero (firstRefusal (namedRefusals (viewPhase phase) (viewPackages t) call id)) ⌝ }
+    ensures place { λ r. ⌜ (r .number ≡ 0 → placeOf id (viewPackages t) ≡ At (r .place)) ⌝ }
+{
+    if !allowed(phase, call) {
+        return NamedPackage {
+            number: OPERATION_NOT_PERMITTED,
+            place: 0,
+        };
+    }
+    let Found::At(i) = find(t, id) else {
+        return NamedPackage {
+            number: INVALID_TRANSFER_ID,
+            place: 0,
+        };
+    };
+    NamedPackage {
+        number: 0,
+        place: i,
+    }
 }
 
 // The place of the package that is processing; where none is, the number of packages.

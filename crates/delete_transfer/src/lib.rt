@@ -2,11 +2,8 @@
 use areas::deletion::Deletion;
 use areas::deletion::delete_areas;
 use areas::deletion::remaining;
-use areas::lookup::find;
-use place_in_list::Found;
+use areas::lookup::named_package;
 use refusal::BAD_STATE;
-use refusal::INVALID_TRANSFER_ID;
-use refusal::OPERATION_NOT_PERMITTED;
 use refusal::WRONG_PACKAGE_STATE;
 use soundness::sound::sound;
 use state::answer::Answer;
@@ -17,7 +14,6 @@ use state::package::PackageState;
 use state::package::is_being_processed;
 use state::package::is_processed;
 use state::permissions::DELETE_TRANSFER;
-use state::permissions::allowed;
 use state::state::State;
 use state::state::with_transfers;
 ghost use mathlib.Core.Path.{_≡_};
@@ -63,18 +59,18 @@ pub fn delete_transfer_on_sound(s: State, store: &mut [u8], id: u32) -> Answered
     ensures { λ r. ⌜ outcome r (now (store .exit)) ≡ calledOnSound s (now (store .entry)) (deleteTransfer id) (withoutTransfer s (now (store .entry)) id) ⌝ }
 {
     let phase = s.phase;
-    if !allowed(phase, DELETE_TRANSFER) {
-        return refused(s, OPERATION_NOT_PERMITTED);
-    }
     let t = s.transfers;
-    let Found::At(i) = find(t, id) else {
-        return refused(s, INVALID_TRANSFER_ID);
-    };
-    let p = t.packages[i];
-    let state = p.state;
-    let number = delete_refusal(state);
+    let named = named_package(phase, t, DELETE_TRANSFER, id);
+    let number = named.number;
     if number != 0 {
         return refused(s, number);
+    }
+    let i = named.place;
+    let p = t.packages[i];
+    let state = p.state;
+    let refusal = delete_refusal(state);
+    if refusal != 0 {
+        return refused(s, refusal);
     }
     take_out(s, store, id)
 }

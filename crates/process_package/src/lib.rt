@@ -2,11 +2,8 @@
 mod checks;
 
 use crate::checks::check_package;
-use areas::lookup::find;
-use place_in_list::Found;
+use areas::lookup::named_package;
 use refusal::BAD_STATE;
-use refusal::INVALID_TRANSFER_ID;
-use refusal::OPERATION_NOT_PERMITTED;
 use refusal::SERVICE_BUSY;
 use soundness::sound::sound;
 use state::answer::Answer;
@@ -17,7 +14,6 @@ use state::package::Package;
 use state::package::PackageState;
 use state::package::in_state;
 use state::permissions::PROCESS;
-use state::permissions::allowed;
 use state::phase::Phase;
 use state::phase::is_processing;
 use state::state::State;
@@ -64,19 +60,19 @@ pub fn process_on_sound(s: State, store: &[u8], id: u32) -> Answered
     if is_processing(phase) {
         return refused(s, SERVICE_BUSY);
     }
-    if !allowed(phase, PROCESS) {
-        return refused(s, OPERATION_NOT_PERMITTED);
-    }
     let t = s.transfers;
-    let Found::At(i) = find(t, id) else {
-        return refused(s, INVALID_TRANSFER_ID);
-    };
+    let named = named_package(phase, t, PROCESS, id);
+    let number = named.number;
+    if number != 0 {
+        return refused(s, number);
+    }
+    let i = named.place;
     let p = t.packages[i];
     let session = s.session;
     let check = check_package(t, i, p, store, session);
-    let number = check.number;
-    if number != 0 {
-        return refused(s, number);
+    let refusal = check.number;
+    if refusal != 0 {
+        return refused(s, refusal);
     }
     let work = check.work;
     begin_processing(s, i, p, work)

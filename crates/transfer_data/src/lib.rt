@@ -1,12 +1,9 @@
 // TransferData: a block of bytes is written behind those that its package received so far.
-use areas::lookup::find;
+use areas::lookup::named_package;
 use areas::sizes::area_start;
-use place_in_list::Found;
 use refusal::BAD_STATE;
 use refusal::INCORRECT_BLOCK;
 use refusal::INCORRECT_SIZE;
-use refusal::INVALID_TRANSFER_ID;
-use refusal::OPERATION_NOT_PERMITTED;
 use refusal::WRONG_PACKAGE_STATE;
 use soundness::sound::sound;
 use state::answer::Answer;
@@ -17,7 +14,6 @@ use state::package::Package;
 use state::package::is_transferring;
 use state::package::with_block;
 use state::permissions::TRANSFER_DATA;
-use state::permissions::allowed;
 use state::state::State;
 use state::state::with_transfers;
 use state::transfers::with_package;
@@ -76,17 +72,17 @@ pub fn transfer_data_on_sound(
     ensures { λ r. ⌜ outcome r (now (store .exit)) ≡ calledOnSound s (now (store .entry)) (transferData id counter (now (block .entry))) (blockReceived s (now (store .entry)) id (now (block .entry))) ⌝ }
 {
     let phase = s.phase;
-    if !allowed(phase, TRANSFER_DATA) {
-        return refused(s, OPERATION_NOT_PERMITTED);
-    }
     let t = s.transfers;
-    let Found::At(i) = find(t, id) else {
-        return refused(s, INVALID_TRANSFER_ID);
-    };
-    let p = t.packages[i];
-    let number = data_refusal(p, counter, block.len());
+    let named = named_package(phase, t, TRANSFER_DATA, id);
+    let number = named.number;
     if number != 0 {
         return refused(s, number);
+    }
+    let i = named.place;
+    let p = t.packages[i];
+    let refusal = data_refusal(p, counter, block.len());
+    if refusal != 0 {
+        return refused(s, refusal);
     }
     accept_block(s, store, i, p, block)
 }

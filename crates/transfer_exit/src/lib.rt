@@ -1,12 +1,9 @@
 // TransferExit: a package that has all its bytes is checked, and is Transferred.
-use areas::lookup::find;
+use areas::lookup::named_package;
 use areas::reading::area_refusal;
 use areas::sizes::area_start;
-use place_in_list::Found;
 use refusal::BAD_STATE;
 use refusal::INSUFFICIENT_DATA;
-use refusal::INVALID_TRANSFER_ID;
-use refusal::OPERATION_NOT_PERMITTED;
 use refusal::WRONG_PACKAGE_STATE;
 use soundness::sound::sound;
 use state::answer::Answer;
@@ -18,7 +15,6 @@ use state::package::PackageState;
 use state::package::in_state;
 use state::package::is_transferring;
 use state::permissions::TRANSFER_EXIT;
-use state::permissions::allowed;
 use state::state::State;
 use state::state::with_transfers;
 use state::transfers::Transfers;
@@ -74,17 +70,17 @@ pub fn transfer_exit_on_sound(s: State, store: &[u8], id: u32) -> Answered
     ensures { λ r. ⌜ outcome r (now (store .entry)) ≡ calledOnSound s (now (store .entry)) (transferExit id) (exited s (now (store .entry)) id) ⌝ }
 {
     let phase = s.phase;
-    if !allowed(phase, TRANSFER_EXIT) {
-        return refused(s, OPERATION_NOT_PERMITTED);
-    }
     let t = s.transfers;
-    let Found::At(i) = find(t, id) else {
-        return refused(s, INVALID_TRANSFER_ID);
-    };
-    let p = t.packages[i];
-    let number = exit_refusal(t, i, p, store);
+    let named = named_package(phase, t, TRANSFER_EXIT, id);
+    let number = named.number;
     if number != 0 {
         return refused(s, number);
+    }
+    let i = named.place;
+    let p = t.packages[i];
+    let refusal = exit_refusal(t, i, p, store);
+    if refusal != 0 {
+        return refused(s, refusal);
     }
     accept_package(s, i, p)
 }

@@ -2,7 +2,7 @@
 -- passed say. Assumes nothing.
 use borrow.Author.Needs.{needs}
 use native.Mathlib.Omega.{arith}
-use mathlib.Core.Path.{_≡_}
+use mathlib.Core.Path.{_≡_, refl}
 use mathlib.Core.Bool.{false}
 use lib.ListN.{length}
 use Rattle.base.proofs.Counted.{unmapped}
@@ -13,7 +13,7 @@ use Rattle.model.specs.Step.{ownRefusals}
 use Rattle.state.specs.View.{viewPhase}
 use Rattle.state.proofs.Ways.{ways}
 use Rattle.soundness.proofs.SoundSession.{session-fits, session-sound}
-use Rattle.areas.proofs.FoundPackage.{count-fits, nothing-unknown, FoundAt, found-at}
+use Rattle.areas.proofs.FoundPackage.{count-fits, FoundAt, found-at, refuse-named, pass-named}
 use Rattle.process_package.proofs.ProcessLaws.{checks-number, checks-pass, begun-at}
 use Rattle.process_package.proofs.process_on_sound.Statement.{statement}
 use Rattle.process_package.proofs.process_on_sound.Tie as tie
@@ -21,9 +21,11 @@ use Rattle.process_package.proofs.process_on_sound.Tie as tie
 long : (c : tie.Start) → length (c .args .s .transfers .packages) ≡ packagesMost
 long c = search (needs, unmapped)
 
-found : (c : tie.After-known-told) → (let a = c .before .before .before .before .before .before .before .before .before .before .args in
-    FoundAt (a .s) (a .store .now) (a .id) (c .before .i .given .0 .0))
-found c = search (found-at, long)
+found : (c : tie.Else2) → (let a = c .before .before .before .before .before .before .args in
+    FoundAt (a .s) (a .store .now) (a .id) (c .before .named-package .result .place))
+found c =
+    let s = c .before .before .before .before .before .before in
+    found-at _ _ _ _ _ (s .pre) (long s) refl (c .before .named-package .ensures .1 (search needs))
 
 -- the phase is another than Processing
 free : (c : tie.Else1) → isProcessing (viewPhase (c .before .before .before .args .s .phase)) ≡ false
@@ -38,30 +40,17 @@ refused-requires c κs = search needs
 returns : tie.Need-returns
 returns c = search (ways, told)
 
-allowed-requires : tie.Need-allowed-requires
-allowed-requires c κs = search needs
+named-package-requires : tie.Need-named-package-requires
+named-package-requires c κs = search count-fits
 
 refused-requires-2 : tie.Need-refused-requires-2
 refused-requires-2 c κs = search needs
 
 returns-2 : tie.Need-returns-2
-returns-2 c = search (ways, told)
-
-find-requires : tie.Need-find-requires
-find-requires c κs = search count-fits
-
-enum-known-i : tie.Need-enum-known-i
-enum-known-i c = search needs
-
-enum-told : tie.Need-enum-told
-enum-told c = search needs
-
-refused-requires-3 : tie.Need-refused-requires-3
-refused-requires-3 c κs = search needs
-
-returns-3 : tie.Need-returns-3
 unfolding ownRefusals
-returns-3 c = search (ways, told, nothing-unknown)
+returns-2 c =
+    let k = c .before .before in
+    refuse-named _ _ _ _ _ _ (free (k .before .before)) (k .named-package .ensures .0) _ _ refl (search needs) (search needs)
 
 mul-p : tie.Need-mul-p
 mul-p c = let h = found c in search needs
@@ -72,24 +61,24 @@ element-copy-out-p c = let h = found c in omega arith
 check-package-requires : tie.Need-check-package-requires
 check-package-requires c κs =
     let k = c .before .before in
-    let s = k .before .before .before .before .before .before .before .before .before .before in
+    let s = k .before .before .before .before .before .before in
     (found k .inside, (session-fits (s .args .s) (s .args .store .now) (s .pre), session-sound (s .args .s) (s .args .store .now) (s .pre)))
 
-refused-requires-4 : tie.Need-refused-requires-4
-refused-requires-4 c κs = search needs
+refused-requires-3 : tie.Need-refused-requires-3
+refused-requires-3 c κs = search needs
 
-returns-4 : tie.Need-returns-4
-returns-4 c =
+returns-3 : tie.Need-returns-3
+returns-3 c =
     let k = c .before .before .before .before .before in
-    search (ways, free (k .before .before .before .before .before .before .before), checks-number, found k)
+    search (ways, pass-named, free (k .before .before .before), checks-number, found k)
 
 begin-processing-requires : tie.Need-begin-processing-requires
 begin-processing-requires c κs = let h = found (c .before .before .before .before .before) in search needs
 
-returns-5 : tie.Need-returns-5
-returns-5 c =
+returns-4 : tie.Need-returns-4
+returns-4 c =
     let k = c .before .before .before .before .before .before in
-    search (ways, free (k .before .before .before .before .before .before .before), checks-pass, begun-at, found k)
+    search (ways, pass-named, free (k .before .before .before), checks-pass, begun-at, found k)
 
 pub process-on-sound-spec : {M : Type 1} → statement M
 process-on-sound-spec =
@@ -98,18 +87,13 @@ process-on-sound-spec =
     is-processing-requires
     refused-requires
     returns
-    allowed-requires
+    named-package-requires
     refused-requires-2
     returns-2
-    find-requires
-    enum-known-i
-    enum-told
-    refused-requires-3
-    returns-3
     mul-p
     element-copy-out-p
     check-package-requires
-    refused-requires-4
-    returns-4
+    refused-requires-3
+    returns-3
     begin-processing-requires
-    returns-5)
+    returns-4)

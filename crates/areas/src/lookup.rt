@@ -35,7 +35,7 @@ pub fn find(t: Transfers, id: u32) -> Found
     Found::Nothing
 }
 
-// The number of the first of the refusals 3 and 4 that applies, or 0, and the place of the package, which is 0 when refused.
+// The number of the first of the refusals 3 and 4 that applies, or 0 and the place of the package. Refused, the place says nothing.
 pub struct NamedPackage {
     pub number: u32,
     pub place: usize,

@@ -1,4 +1,4 @@
 // Actions on a table of clusters.
 pub mod action;
-pub mod place;
+mod place;
 pub mod refusals;

@@ -1,3 +1,3 @@
 // The text of a package: its names line, value lines and empty line, and where its payload lies.
-pub mod lines;
+mod lines;
 pub mod package;

@@ -10,6 +10,7 @@ use Rattle.checksum.specs.Sum.{sumsWithin}
 use Rattle.clusters.specs.Table.{tableWithin}
 use Rattle.actions.specs.Action.{actionWithin, actionsWithin}
 use Rattle.actions.specs.Refusals.{passes, passInTurn}
+use Rattle.package_heading.specs.Heading.{sumMost}
 use Rattle.model.specs.State.{Package, Phase, isIdle, isProcessing, Transfers, Entry, Session, Work, State, Store, actions}
 use Rattle.model.specs.Areas.{declared, packageOf, isTransferring, isBeingProcessed, isProcessed, countIn, processingId}
 use Rattle.model.specs.Tables.{staged}
@@ -76,7 +77,7 @@ workSound session packages w =
     actionWithin (w .action)
     && (passes (staged session) (actions (session .listed)) (w .action)
     && (eqb (w .start + w .count) (packageOf (processingId packages) packages .size)
-    && (leb (w .done) (w .count) && (leb (w .sum) 65535 && sumsWithin (w .runningSums)))))
+    && (leb (w .done) (w .count) && (leb (w .sum) sumMost && sumsWithin (w .runningSums)))))
 
 -- "in Processing" there are kept values; "outside it the kept values and the cancel note are cleared"
 unfoldable pub keptSound : Phase → Session → List Package → Option Work → Bool

@@ -1,5 +1,5 @@
 // Lines of fields: what the cluster list and the text of a package are both made of.
 pub mod columns;
-pub mod field;
+mod field;
 pub mod line;
 pub mod reader;

@@ -7,6 +7,7 @@ use Rattle.base.specs.Counted.{counted}
 use Rattle.checksum.specs.Sum.{sumsWithin}
 use Rattle.clusters.specs.declared.table.Table.{Table}
 use Rattle.clusters.specs.View.{viewTable}
+use Rattle.package_heading.specs.Heading.{sumMost}
 use Rattle.model.specs.State as model
 use Rattle.model.specs.Areas.{isBeingProcessed, isProcessed, countIn}
 use Rattle.state.specs.declared.session.Entry.{Entry}
@@ -34,4 +35,4 @@ countedSession beginning entries count = record { beginning = viewTable beginnin
 -- payload": what soundness of the kept values asks of their numbers
 abbrev pub workNumbersSound : Work → ℕ → Bool
 workNumbersSound w size =
-    eqb (w .start + w .count) size && (leb (w .done) (w .count) && (leb (w .sum) 65535 && sumsWithin (w .«running_sums»)))
+    eqb (w .start + w .count) size && (leb (w .done) (w .count) && (leb (w .sum) sumMost && sumsWithin (w .«running_sums»)))

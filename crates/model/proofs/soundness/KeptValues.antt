@@ -10,6 +10,7 @@ use Rattle.checksum.proofs.Laws.{start-within, continued-within}
 use Rattle.actions.specs.Refusals.{passes}
 use Rattle.actions.specs.Action.{actionWithin}
 use Rattle.manifest.specs.Package.{Manifest}
+use Rattle.package_heading.specs.Heading.{sumMost}
 use Rattle.model.specs.State.{Package, Phase, isProcessing, Session, Work, actions}
 use Rattle.model.specs.Areas.{packageOf, processingId}
 use Rattle.model.specs.Tables.{staged}
@@ -58,7 +59,7 @@ module _ (phase : Phase) (session : Session) (ps : List Package) where
 module _ (session : Session) (ps : List Package) where
   pub begun-facts : (m : Manifest) → actionWithin (m .action) ≡ true
       → passes (staged session) (actions (session .listed)) (m .action) ≡ true → m .start + m .count ≡ packageOf (processingId ps) ps .size
-      → m .sum ≤ 65535 → WorkFacts session ps (workAtStart m)
+      → m .sum ≤ sumMost → WorkFacts session ps (workAtStart m)
   begun-facts m within passed size sum =
       record { within = within; passed = passed; size = size; done = omega arith; sum = sum; runningSums = start-within }
 

@@ -12,6 +12,7 @@ use Rattle.checksum.specs.Sum.{sumsWithin}
 use Rattle.clusters.specs.Table.{tableWithin}
 use Rattle.actions.specs.Refusals.{passes, passInTurn}
 use Rattle.actions.specs.Action.{actionWithin, actionsWithin}
+use Rattle.package_heading.specs.Heading.{sumMost}
 use Rattle.model.specs.State.{Package, isProcessing, Session, Work, State, Store, actions}
 use Rattle.model.specs.Areas.{declared, packageOf, isBeingProcessed, isProcessed, countIn, processingId}
 use Rattle.model.specs.Tables.{staged}
@@ -62,7 +63,7 @@ pub record WorkFacts (session : Session) (packages : List Package) (w : Work) : 
   pub passed : passes (staged session) (actions (session .listed)) (w .action) ≡ true
   pub size : w .start + w .count ≡ packageOf (processingId packages) packages .size
   pub done : w .done ≤ w .count
-  pub sum : w .sum ≤ 65535
+  pub sum : w .sum ≤ sumMost
   pub runningSums : sumsWithin (w .runningSums) ≡ true
 
 module _ (session : Session) (packages : List Package) (w : Work) where
@@ -79,7 +80,7 @@ module _ (session : Session) (packages : List Package) (w : Work) where
         size = eqb-true _ _ (and-left _ _ size);
         done = leb-true _ _ (and-left _ _ done);
         sum = leb-true _ _ (and-left _ _ sum);
-        runningSums = and-right (leb (w .sum) 65535) _ sum;
+        runningSums = and-right (leb (w .sum) sumMost) _ sum;
       }
 
   pub work-is : WorkFacts session packages w → workSound session packages w ≡ true

@@ -13,6 +13,7 @@ use Rattle.actions.specs.Action.{Action, actionWithin, actionsWithin}
 use Rattle.actions.specs.Refusals.{passes, passInTurn}
 use Rattle.actions.proofs.InTurn.{pass-in-turn-last, actions-within-last}
 use Rattle.manifest.specs.Package.{Manifest}
+use Rattle.package_heading.specs.Heading.{sumMost}
 use Rattle.model.specs.State.{PackageState, transferred, beingProcessed, processed, Package, processing, isProcessing, Entry, Work, State, state, Store, actions}
 use Rattle.model.specs.Areas.{find, inState, changed, isTransferring, isBeingProcessed, isProcessed, countIn, processingId}
 use Rattle.model.specs.Tables.{staged}
@@ -58,7 +59,7 @@ module _ (s : State) (store : Store) (ok : Sound s store) where
   -- processing begins on a Transferred package
   pub begun-sound : (id : ℕ) (p : Package) (m : Manifest) → isProcessing (s .phase) ≡ false → find id (s .transfers .packages) ≡ some p
       → p .state ≡ transferred
-      → actionWithin (m .action) ≡ true → passes (staged (s .session)) (actions (s .session .listed)) (m .action) ≡ true → m .start + m .count ≡ p .size → m .sum ≤ 65535
+      → actionWithin (m .action) ≡ true → passes (staged (s .session)) (actions (s .session .listed)) (m .action) ≡ true → m .start + m .count ≡ p .size → m .sum ≤ sumMost
       → Sound (state processing (withPackages (changed id (inState beingProcessed) (s .transfers .packages)) (s .transfers)) (s .session) (some (workAtStart m))) store
   begun-sound id p m outside e is within passed size sum =
       let ps = s .transfers .packages in

@@ -8,3 +8,5 @@ pub mod Returns
 pub mod NeverUnsound
 pub mod SessionTable
 pub mod Demand3
+pub mod EventRuns
+pub mod Layers

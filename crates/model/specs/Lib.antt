@@ -12,3 +12,4 @@ pub mod Reading
 pub mod Accepted
 pub mod Invariant
 pub mod Demand3
+pub mod Layers

@@ -1,7 +1,7 @@
 -- What a call gives on the code's structs: its answer, the state and the store then.
 use Prim.Native.Nat.{ℕ}
 use mathlib.Core.Path.{_≡_}
-use mathlib.Core.Bool.{true}
+use mathlib.Core.Bool.{Bool, true, false}
 use mathlib.Core.Option.{Option, none, some}
 use Rattle.base.specs.Refusals.{firstRefusal}
 use Rattle.model.specs.State.{Store}
@@ -29,6 +29,22 @@ replyOf NotAbleToRollback = calls.accepted calls.notAbleToRollback
 replyOf NotAbleToRevert = calls.accepted calls.notAbleToRevert
 replyOf CleaningFailed = calls.accepted calls.cleaningFailed
 replyOf (Refused number) = calls.refused number
+
+-- the case that is a refusal
+abbrev pub isRefusal : Answer → Bool
+isRefusal (Id id) = false
+isRefusal Done = false
+isRefusal Working = false
+isRefusal Processed = false
+isRefusal Cancelled = false
+isRefusal Inconsistent = false
+isRefusal PreActivationFailed = false
+isRefusal MissingDependencies = false
+isRefusal VerificationFailed = false
+isRefusal NotAbleToRollback = false
+isRefusal NotAbleToRevert = false
+isRefusal CleaningFailed = false
+isRefusal (Refused number) = true
 
 -- a call's answer with the state, and the store
 pub record Outcome : Type 0 where

@@ -1,7 +1,7 @@
 // What the twelve calls answer.
 use crate::state::State;
 ghost use mathlib.Core.Path.{_≡_};
-ghost use Rattle.state.specs.Outcome.{refusedBy, answered};
+ghost use Rattle.state.specs.Outcome.{isRefusal, refusedBy, answered};
 
 // The answers of document 01 by their names, the id that TransferStart gives, and a refusal, which is its number alone.
 pub enum Answer {
@@ -42,5 +42,26 @@ pub fn answer_with(answer: Answer, s: State) -> Answered
     Answered {
         answer: answer,
         state: s,
+    }
+}
+
+// Whether an answer is a refusal.
+pub fn is_refusal(answer: Answer) -> bool
+    ensures { λ r. ⌜ r ≡ isRefusal answer ⌝ }
+{
+    match answer {
+        Answer::Id(_) => false,
+        Answer::Done => false,
+        Answer::Working => false,
+        Answer::Processed => false,
+        Answer::Cancelled => false,
+        Answer::Inconsistent => false,
+        Answer::PreActivationFailed => false,
+        Answer::MissingDependencies => false,
+        Answer::VerificationFailed => false,
+        Answer::NotAbleToRollback => false,
+        Answer::NotAbleToRevert => false,
+        Answer::CleaningFailed => false,
+        Answer::Refused(_) => true,
     }
 }

@@ -1,0 +1,3 @@
+pub mod OldCalls
+pub mod Exact
+pub mod MixedLists

@@ -3,37 +3,36 @@
 use Prim.Native.Nat.{ℕ, _+_, _*_, _/_, _≤_, _<_}
 use mathlib.Core.Path.{_≡_, refl, sym, ap, subst, _∙_}
 use mathlib.Core.Bool.{true}
-use mathlib.Core.List.{List, [], _∷_, _++_, map, map-append, append-assoc, append-nil}
+use mathlib.Core.List.{List, [], _∷_, _++_, append-assoc, append-nil}
 use mathlib.Core.Option.{Option, none, some, Option·some-injective}
 use native.Mathlib.Omega.{arith}
 use lib.ListN.{length, drop, length-append}
 use lib.Seq.{sets, sets-eq, length-sets, take-at, drop-at, drop-drop}
 use Rattle.base.proofs.Tests.{clash}
 use Rattle.model.specs.State.{Store}
-use Rattle.model.specs.Calls.{Call}
-use Rattle.model.specs.Run as model
+use Rattle.model.specs.Layers.{EventOutcome, madeEvent, EventRun, eventOutcome, eventRun, runEvents}
+use Rattle.model.proofs.journal.EventRuns.{thenMade, events-last, view-last}
 use Rattle.state.specs.declared.state.State.{State}
-use Rattle.state.specs.declared.answer.Answered.{Answered}
 use Rattle.state.specs.View.{viewState}
-use Rattle.state.specs.Outcome.{outcome, replyOf}
+use Rattle.four_state.specs.MixedLists.{MixedCall, MixedReply, mixedStep, MixedMade}
 use Rattle.call_rows.specs.declared.row.Row.{Row}
+use Rattle.call_rows.specs.declared.answer_words.AnswerWords.{AnswerWords}
 use Rattle.call_rows.specs.Row.{rowAt, decodedRow}
 use Rattle.call_rows.specs.Rows.{decoded, isGiven}
 use Rattle.call_rows.specs.Answers.{answerWords}
 use Rattle.call_rows.proofs.RowListLaws.{whole-row, next-call, no-calls-left}
-use Rattle.call_list.specs.Run.{Made, Run, made, ran, runBy, viewMade}
+use Rattle.call_list.specs.declared.RowAnswered.{RowAnswered}
+use Rattle.call_list.specs.Run.{exactMixedStep}
 use Rattle.call_list.specs.Answers.{wordsOf}
-use Rattle.manager.specs.Accepts.{exactStep}
-use Rattle.call_list.specs.WholeList.{RowMade, MadeFrom}
-use Rattle.call_list.proofs.RunLaws.{thenMade, run-last, view-last}
+use Rattle.call_list.specs.WholeList.{CallMade, MadeFrom}
 
 -- ---- the answers
 
-words-last : (l : List model.Made) (m : model.Made)
-    → wordsOf (l ++ m ∷ []) ≡ wordsOf l ++ answerWords (m .reply) .kind ∷ answerWords (m .reply) .value ∷ []
+words-last : (l : List MixedMade) (m : MixedMade)
+    → wordsOf (l ++ m ∷ []) ≡ wordsOf l ++ answerWords (m .answer) .kind ∷ answerWords (m .answer) .value ∷ []
 unfolding wordsOf
 words-last [] m = refl
-words-last (first ∷ l) m = ap (λ (w : List ℕ). answerWords (first .reply) .kind ∷ answerWords (first .reply) .value ∷ w) (words-last l m)
+words-last (first ∷ l) m = ap (λ (w : List ℕ). answerWords (first .answer) .kind ∷ answerWords (first .answer) .value ∷ w) (words-last l m)
 
 -- two words are put behind those that stand
 two-more : (w answers : List ℕ) (at kind value : ℕ) → length w ≡ at → at + 2 ≤ length (w ++ drop at answers)
@@ -47,60 +46,58 @@ two-more w answers at kind value is room =
 
 module _ (s₀ : State) (store₀ : Store) (answers₀ : List ℕ) where
   pub none-made : MadeFrom s₀ store₀ answers₀ [] s₀ store₀ answers₀
-  unfolding runBy model.run wordsOf
+  unfolding runEvents wordsOf
   none-made = record { made = []; exact = refl; meaning = refl; count = refl; written = refl }
 
-  module _ (past : List Call) (s : State) (store : Store) (answers : List ℕ) (so-far : MadeFrom s₀ store₀ answers₀ past s store answers)
-      (call : Call) (r : Row) (bytes : List ℕ) (is : decodedRow r bytes ≡ some call) (given : Answered) (store′ : Store)
-      (row : RowMade s store r bytes (outcome given store′)) where
-    abbrev l : List Made
+  module _ (past : List MixedCall) (s : State) (store : Store) (answers : List ℕ) (so-far : MadeFrom s₀ store₀ answers₀ past s store answers)
+      (call : MixedCall) (given : RowAnswered) (store′ : Store) (made : CallMade s store call given store′) where
+    abbrev l : List MixedMade
     l = so-far .made
 
-    abbrev more : List Made
-    more = l ++ made call (given .answer) ∷ []
+    abbrev more : List MixedMade
+    more = l ++ madeEvent call (made .answer) ∷ []
 
     abbrev w : List ℕ
-    w = wordsOf (map viewMade l)
+    w = wordsOf l
 
     abbrev kind : ℕ
-    kind = answerWords (replyOf (given .answer)) .kind
+    kind = given .words .kind
 
     abbrev value : ℕ
-    value = answerWords (replyOf (given .answer)) .value
+    value = given .words .value
 
-    words-more : wordsOf (map viewMade more) ≡ w ++ kind ∷ value ∷ []
-    words-more =
-        ap wordsOf (map-append viewMade l (made call (given .answer) ∷ [])) ∙ words-last (map viewMade l) (viewMade (made call (given .answer)))
+    words-more : wordsOf more ≡ w ++ kind ∷ value ∷ []
+    words-more = words-last l (madeEvent call (made .answer)) ∙ ap (λ (x : AnswerWords). w ++ x .kind ∷ x .value ∷ []) (sym (made .words))
 
     pub one-more-made : (at : ℕ) → at ≡ 2 * length past → at + 2 ≤ length answers
         → MadeFrom s₀ store₀ answers₀ (past ++ call ∷ []) (given .state) store′ (sets answers at (kind ∷ value ∷ []))
     one-more-made at is-at room =
-        let o = outcome given store′ in
+        let o = eventOutcome (made .answer) (given .state) store′ in
         let place : length w ≡ at = so-far .count ∙ sym is-at in
         let before : answers ≡ w ++ drop at answers₀ = so-far .written ∙ ap (λ (n : ℕ). w ++ drop n answers₀) place in
         let roomy : at + 2 ≤ length (w ++ drop at answers₀) = omega (arith, ap length before) in
-        let long : length (wordsOf (map viewMade more)) ≡ at + 2 = omega (arith, ap length words-more, length-append w (kind ∷ value ∷ [])) in
+        let long : length (wordsOf more) ≡ at + 2 = omega (arith, ap length words-more, length-append w (kind ∷ value ∷ [])) in
         record {
           made = more;
           exact =
-              run-last exactStep s₀ store₀ past call
-              ∙ ap (λ (x : Run). thenMade x call (exactStep (x .state) (x .store) call)) (so-far .exact)
-              ∙ ap (thenMade (ran l s store) call) (sym (row .exact call is));
+              events-last exactMixedStep s₀ store₀ past call
+              ∙ ap (λ (x : EventRun State MixedCall MixedReply). thenMade exactMixedStep x call (exactMixedStep (x .state) (x .store) call)) (so-far .exact)
+              ∙ ap (λ (x : EventOutcome State MixedReply). thenMade exactMixedStep (eventRun l s store) call x) (sym (made .exact));
           count = long ∙ omega (arith, length-append past (call ∷ []));
-          meaning = view-last (viewState s₀) store₀ past call (ran l s store) o (so-far .meaning) (row .meaning call is);
+          meaning = view-last viewState exactMixedStep mixedStep (viewState s₀) store₀ past call (eventRun l s store) o (so-far .meaning) (made .meaning);
           written =
               ap (λ (a : List ℕ). sets a at (kind ∷ value ∷ [])) before
               ∙ two-more w answers₀ at kind value place roomy
               ∙ ap (λ (n : ℕ). (w ++ kind ∷ value ∷ []) ++ drop n answers₀) (sym long)
-              ∙ ap (λ (x : List ℕ). x ++ drop (length (wordsOf (map viewMade more))) answers₀) (sym words-more);
+              ∙ ap (λ (x : List ℕ). x ++ drop (length (wordsOf more)) answers₀) (sym words-more);
         }
 
 -- ---- the loop
 
 -- i words are past and `at` words of answers are written: the calls of the words past were made, and what is left is given
 pub record MadeSoFar (words bytes : List ℕ) (s₀ : State) (store₀ : Store) (answers₀ : List ℕ) (s : State) (store : Store) (answers : List ℕ) (i at : ℕ) : Type 0 where
-  pub past : List Call
-  pub rest : List Call
+  pub past : List MixedCall
+  pub rest : List MixedCall
   pub whole : decoded words bytes ≡ some (past ++ rest)
   pub left : decoded (drop i words) bytes ≡ some rest
   pub so-far : MadeFrom s₀ store₀ answers₀ past s store answers
@@ -110,7 +107,7 @@ pub record MadeSoFar (words bytes : List ℕ) (s₀ : State) (store₀ : Store) 
   pub answers-long : length answers ≡ length answers₀
 
 module _ (words bytes : List ℕ) (s₀ : State) (store₀ : Store) (answers₀ : List ℕ) where
-  begin : (calls : List Call) → decoded words bytes ≡ some calls → MadeSoFar words bytes s₀ store₀ answers₀ s₀ store₀ answers₀ 0 0
+  begin : (calls : List MixedCall) → decoded words bytes ≡ some calls → MadeSoFar words bytes s₀ store₀ answers₀ s₀ store₀ answers₀ 0 0
   begin calls e =
       record {
         past = [];
@@ -127,7 +124,7 @@ module _ (words bytes : List ℕ) (s₀ : State) (store₀ : Store) (answers₀ 
   pub none-so-far : isGiven (decoded words bytes) ≡ true → MadeSoFar words bytes s₀ store₀ answers₀ s₀ store₀ answers₀ 0 0
   none-so-far given = go (decoded words bytes) refl given
     where
-      go : (o : Option (List Call)) → decoded words bytes ≡ o → isGiven o ≡ true → MadeSoFar words bytes s₀ store₀ answers₀ s₀ store₀ answers₀ 0 0
+      go : (o : Option (List MixedCall)) → decoded words bytes ≡ o → isGiven o ≡ true → MadeSoFar words bytes s₀ store₀ answers₀ s₀ store₀ answers₀ 0 0
       go none e g = clash g refl
       go (some calls) e g = begin calls e
 
@@ -139,34 +136,34 @@ module _ (words bytes : List ℕ) (s₀ : State) (store₀ : Store) (answers₀ 
       pub room-left : i < length words → length words / 3 ≤ length answers₀ → at + 2 ≤ length answers
       room-left h room = omega (arith, row-left h, so .word, so .answers-long)
 
-      pub one-more : i < length words → length words / 3 ≤ length answers₀ → (r : Row) → r ≡ rowAt words i → (given : Answered) (store′ : Store)
-          → length store′ ≡ length store → RowMade s store r bytes (outcome given store′) → (answers′ : List ℕ)
-          → answers′ ≡ sets answers at (answerWords (replyOf (given .answer)) .kind ∷ answerWords (replyOf (given .answer)) .value ∷ [])
+      pub one-more : i < length words → length words / 3 ≤ length answers₀ → (r : Row) → r ≡ rowAt words i → (given : RowAnswered) (store′ : Store)
+          → length store′ ≡ length store → ((call : MixedCall) → decodedRow r bytes ≡ some call → CallMade s store call given store′)
+          → (answers′ : List ℕ) → answers′ ≡ sets answers at (given .words .kind ∷ given .words .value ∷ [])
           → MadeSoFar words bytes s₀ store₀ answers₀ (given .state) store′ answers′ (i + 6) (at + 2)
       one-more h room r is given store′ long row answers′ put =
           let f = next-call words bytes i (so .rest) (so .left) (row-left h) in
           let here : decodedRow r bytes ≡ some (f .call) = ap (λ (x : Row). decodedRow x bytes) is ∙ f .here in
-          let next = one-more-made s₀ store₀ answers₀ (so .past) s store answers (so .so-far) (f .call) r bytes here given store′ row at (so .place) (room-left h room) in
+          let next = one-more-made s₀ store₀ answers₀ (so .past) s store answers (so .so-far) (f .call) given store′ (row (f .call) here) at (so .place) (room-left h room) in
           record {
             past = so .past ++ f .call ∷ [];
             rest = f .rest;
             whole =
                 so .whole
-                ∙ ap (λ (l : List Call). some (so .past ++ l)) (f .both)
+                ∙ ap (λ (l : List MixedCall). some (so .past ++ l)) (f .both)
                 ∙ ap some (sym (append-assoc (so .past) (f .call ∷ []) (f .rest)));
             left = f .later;
             so-far = subst (λ (a : List ℕ). MadeFrom s₀ store₀ answers₀ (so .past ++ f .call ∷ []) (given .state) store′ a) (sym put) next;
             place = omega (arith, so .place, length-append (so .past) (f .call ∷ []));
             word = omega (arith, so .word);
             store-long = long ∙ so .store-long;
-            answers-long = ap length put ∙ length-sets answers at (answerWords (replyOf (given .answer)) .kind ∷ answerWords (replyOf (given .answer)) .value ∷ []) ∙ so .answers-long;
+            answers-long = ap length put ∙ length-sets answers at (given .words .kind ∷ given .words .value ∷ []) ∙ so .answers-long;
           }
 
-      pub all-made : length words ≤ i → (calls : List Call) → decoded words bytes ≡ some calls → MadeFrom s₀ store₀ answers₀ calls s store answers
+      pub all-made : length words ≤ i → (calls : List MixedCall) → decoded words bytes ≡ some calls → MadeFrom s₀ store₀ answers₀ calls s store answers
       all-made h calls e =
           let none-left = no-calls-left words bytes i (so .rest) (so .left) h in
           let all : so .past ≡ calls =
           sym (append-nil (so .past))
-          ∙ ap (λ (l : List Call). so .past ++ l) (sym none-left)
+          ∙ ap (λ (l : List MixedCall). so .past ++ l) (sym none-left)
           ∙ Option·some-injective _ _ (sym (so .whole) ∙ e) in
-          subst (λ (l : List Call). MadeFrom s₀ store₀ answers₀ l s store answers) all (so .so-far)
+          subst (λ (l : List MixedCall). MadeFrom s₀ store₀ answers₀ l s store answers) all (so .so-far)

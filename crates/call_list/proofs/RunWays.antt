@@ -9,54 +9,54 @@ use lib.ListN.{length}
 use borrow.Author.Tests.{le-leb, lt-leb}
 use Rattle.base.proofs.Tests.{clash}
 use Rattle.model.specs.State.{Store}
-use Rattle.model.specs.Calls.{Call}
-use Rattle.model.specs.Run as model
+use Rattle.model.specs.State as model
 use Rattle.model.specs.Journal.{Journal, journal}
 use Rattle.model.specs.Invariant.{Invariant}
-use Rattle.model.proofs.journal.Demand3.{list-keeps, demand3-from}
+use Rattle.model.specs.Layers.{EventRun, runEvents, countedIn}
 use Rattle.state.specs.declared.state.State.{State}
 use Rattle.state.specs.View.{viewState}
+use Rattle.four_state.specs.MixedLists.{MixedCall, MixedReply, mixedStep, countsAs}
+use Rattle.four_state.proofs.MixedLists.{mixed-keeps, mixed-demand-from}
 use Rattle.call_rows.specs.Rows.{decoded, isGiven}
 use Rattle.call_rows.proofs.RowListLaws.{six-for-each}
 use Rattle.call_list.specs.declared.ListReply.the-variants.{Made, Malformed, ShortAnswers}
 use Rattle.call_list.specs.declared.RepliedList.{RepliedList}
-use Rattle.call_list.specs.Run.{Run, runBy}
 use Rattle.call_list.specs.Answers.{wordsOf}
 use Rattle.call_list.specs.WholeList.{replied, listOutcome, outcomeOf, runOutcome, modelOutcomeOf, viewListOutcome, modelRunOutcome, GoesOn, MadeFrom}
 
 -- ---- the three clauses
 
 module _ (s : State) (store : Store) (answers : List ℕ) where
-  abbrev Continues : Option (List Call) → RepliedList → Store → Type 0
+  abbrev Continues : Option (List MixedCall) → RepliedList → Store → Type 0
   Continues given r store′ =
-      (calls : List Call) → given ≡ some calls → r .reply ≡ Made → (j : Journal) → Invariant j (viewState s) store
+      (calls : List MixedCall) → given ≡ some calls → r .reply ≡ Made → (j : Journal) → Invariant j (viewState s) store
       → GoesOn j s store calls (r .state) store′
 
-  abbrev Clauses : Option (List Call) → RepliedList → Store → List ℕ → Type 0
+  abbrev Clauses : Option (List MixedCall) → RepliedList → Store → List ℕ → Type 0
   Clauses given r store′ answers′ =
       (viewListOutcome (listOutcome r store′ answers′) ≡ modelRunOutcome (viewState s) store answers given)
       × ((listOutcome r store′ answers′ ≡ runOutcome s store answers given) × Continues given r store′)
 
-  malformed : (given : Option (List Call)) → isGiven given ≡ false → Clauses given (replied Malformed s) store answers
-  unfolding runOutcome modelRunOutcome runBy model.run wordsOf
+  malformed : (given : Option (List MixedCall)) → isGiven given ≡ false → Clauses given (replied Malformed s) store answers
+  unfolding runOutcome modelRunOutcome runEvents wordsOf
   malformed none e = (refl, (refl, λ calls is made. let z : _≡_ {A = Bool} true false = cc in absurd (true≢false z)))
   malformed (some calls) e = clash refl e
 
-  short : (calls : List Call) → length answers < 2 * length calls → Clauses (some calls) (replied ShortAnswers s) store answers
-  unfolding runOutcome modelRunOutcome runBy model.run wordsOf
+  short : (calls : List MixedCall) → length answers < 2 * length calls → Clauses (some calls) (replied ShortAnswers s) store answers
+  unfolding runOutcome modelRunOutcome runEvents wordsOf
   short calls h =
       let no = lt-leb (2 * length calls) (length answers) h in
       (rw no, (rw no, λ others is made. let z : _≡_ {A = Bool} true false = cc in absurd (true≢false z)))
 
-  module _ (calls : List Call) (s′ : State) (store′ : Store) (answers′ : List ℕ) (m : MadeFrom s store answers calls s′ store′ answers′) where
+  module _ (calls : List MixedCall) (s′ : State) (store′ : Store) (answers′ : List ℕ) (m : MadeFrom s store answers calls s′ store′ answers′) where
     -- the calls behind those of a journal
     goes-on : (j : Journal) → Invariant j (viewState s) store → GoesOn j s store calls s′ store′
     goes-on j i =
         record {
-          demand3 = demand3-from j (viewState s) store i calls;
+          demand3 = mixed-demand-from j (viewState s) store i calls;
           invariant =
-              subst (λ (r : model.Run). Invariant (journal j (model.run (viewState s) store calls .made)) (r .state) (r .store)) (sym (m .meaning))
-              (list-keeps j (viewState s) store calls i);
+              subst (λ (r : EventRun model.State MixedCall MixedReply). Invariant (journal j (countedIn mixedStep countsAs (viewState s) store calls)) (r .state) (r .store)) (sym (m .meaning))
+              (mixed-keeps j (viewState s) store i calls);
         }
 
     all-made : 2 * length calls ≤ length answers → Clauses (some calls) (replied Made s′) store′ answers′
@@ -65,19 +65,19 @@ module _ (s : State) (store : Store) (answers : List ℕ) where
         let yes = le-leb (2 * length calls) (length answers) h in (
           rw yes
               (ap (λ (words : List ℕ). viewListOutcome (listOutcome (replied Made s′) store′ words)) (m .written)
-              ∙ ap (λ (r : model.Run). modelOutcomeOf Made r answers) (m .meaning)),
+              ∙ ap (λ (r : EventRun model.State MixedCall MixedReply). modelOutcomeOf Made r answers) (m .meaning)),
           (
             rw yes
                 (ap (listOutcome (replied Made s′) store′) (m .written)
-                ∙ ap (λ (r : Run). outcomeOf Made r answers) (sym (m .exact))),
-            λ others is made j i. subst (λ (l : List Call). GoesOn j s store l s′ store′) (Option·some-injective _ _ is) (goes-on j i),
+                ∙ ap (λ (r : EventRun State MixedCall MixedReply). outcomeOf Made r answers) (sym (m .exact))),
+            λ others is made j i. subst (λ (l : List MixedCall). GoesOn j s store l s′ store′) (Option·some-injective _ _ is) (goes-on j i),
           ),
         )
 
 -- ---- what `run` learns on its way
 
 -- the calls of a list that is given
-pub given-cases : (P : Option (List Call) → Type 0) (o : Option (List Call)) → isGiven o ≡ true → ((calls : List Call) → o ≡ some calls → P (some calls)) → P o
+pub given-cases : (P : Option (List MixedCall) → Type 0) (o : Option (List MixedCall)) → isGiven o ≡ true → ((calls : List MixedCall) → o ≡ some calls → P (some calls)) → P o
 given-cases P none g f = clash g refl
 given-cases P (some calls) g f = f calls refl
 
@@ -90,14 +90,14 @@ module _ (s : State) (store : Store) (answers words bytes : List ℕ) (r : Repli
       → Clauses s store answers (decoded words bytes) r store answers
   ends-short g h is =
       rw is
-      (given-cases (λ (o : Option (List Call)). Clauses s store answers o (replied ShortAnswers s) store answers) (decoded words bytes) g
+      (given-cases (λ (o : Option (List MixedCall)). Clauses s store answers o (replied ShortAnswers s) store answers) (decoded words bytes) g
       λ calls e. short s store answers calls (omega (arith, six-for-each words bytes calls e)))
 
   pub ends-made : isGiven (decoded words bytes) ≡ true → length words / 3 ≤ length answers → (s′ : State) (store′ : Store) (answers′ : List ℕ)
       → r ≡ replied Made s′
-      → ((calls : List Call) → decoded words bytes ≡ some calls → MadeFrom s store answers calls s′ store′ answers′)
+      → ((calls : List MixedCall) → decoded words bytes ≡ some calls → MadeFrom s store answers calls s′ store′ answers′)
       → Clauses s store answers (decoded words bytes) r store′ answers′
   ends-made g h s′ store′ answers′ is m =
       rw is
-      (given-cases (λ (o : Option (List Call)). Clauses s store answers o (replied Made s′) store′ answers′) (decoded words bytes) g
+      (given-cases (λ (o : Option (List MixedCall)). Clauses s store answers o (replied Made s′) store′ answers′) (decoded words bytes) g
       λ calls e. all-made s store answers calls s′ store′ answers′ (m calls e) (omega (arith, six-for-each words bytes calls e)))

@@ -1,81 +1,64 @@
--- The list without its refused calls, on the code's structs: the other calls have the same answers, and the state, as a struct, and the
--- store at the end are equal. It holds of every step whose refusals give back what they were handed. Assumes nothing.
+-- Refused calls on the code's structs, of both kinds, give back what they were handed: the state as a struct, and the store. So the list
+-- without them has the same answers and end (`without-refused-events` of `model`). Assumes nothing.
 use Prim.Native.Nat.{ℕ}
-use mathlib.Core.Path.{_≡_, refl, sym, ap, ap₂, _∙_}
-use mathlib.Core.List.{List, [], _∷_}
+use mathlib.Core.Path.{_≡_, refl}
+use mathlib.Core.Bool.{true}
+use mathlib.Core.List.{List}
 use mathlib.Core.Option.{Option, none, some}
 use Rattle.base.specs.Refusals.{firstRefusal}
+use Rattle.base.proofs.Tests.{clash}
 use Rattle.model.specs.State.{Store}
 use Rattle.model.specs.Calls.{Call, Reply, refused, accepted}
 use Rattle.model.specs.Step.{refusals}
+use Rattle.model.specs.Layers.{RefusedGivesBack, SameWithoutRefusedEvents}
+use Rattle.model.proofs.journal.EventRuns.{without-refused-events}
 use Rattle.state.specs.declared.state.State.{State}
 use Rattle.state.specs.View.{viewState}
-use Rattle.state.specs.Outcome.{Outcome, replyOf, settled, called}
+use Rattle.state.specs.Outcome.{replyOf, settled, called}
 use Rattle.manager.specs.Accepts.{accepts, exactStep}
 use Rattle.manager.proofs.GivesBack.{accepts-back}
-use Rattle.call_list.specs.Run.{Step, Made, Run, made, ran, runBy, acceptedOnly, callsOf, RefusedGivesBack, SameWithoutRefused}
+use Rattle.four_state.specs.declared.call.OldCall.{OldCall}
+use Rattle.four_state.specs.OldCalls.{oldAnswers}
+use Rattle.four_state.specs.Exact.{exactBegunUnless}
+use Rattle.four_state.specs.MixedLists.{MixedCall, ofTwelve, ofFour, byTwelve, byFour, isMixedRefusal}
+use Rattle.call_list.specs.Run.{exactMixedStep}
 
--- ---- one call that is refused or accepted
+-- ---- one call
 
-module _ (m : Made) (later : List Made) where
-  abbrev kept : Reply → List Made
-  kept reply = elim reply [ refused number ↦ acceptedOnly later | accepted answer ↦ m ∷ acceptedOnly later ]
+module _ (s : State) (store : Store) where
+  -- a call of the twelve, whether one of the model's refusals applies or none does
+  settled-back : (call : Call) (number : ℕ) (refusal : Option ℕ)
+      → (let o = settled s store refusal (accepts s store call) in
+      replyOf (o .answered .answer) ≡ refused number → (o .answered .state ≡ s) × (o .store ≡ store))
+  unfolding settled
+  settled-back call number none e = accepts-back s store call number e
+  settled-back call number (some n) e = (refl, refl)
 
-  accepted-first : (reply : Reply) → replyOf (m .answer) ≡ reply → acceptedOnly (m ∷ later) ≡ kept reply
-  unfolding acceptedOnly
-  accepted-first reply e = ap kept e
+  twelve-back : (call : Call) (number : ℕ) → replyOf (exactStep s store call .answered .answer) ≡ refused number
+      → (exactStep s store call .answered .state ≡ s) × (exactStep s store call .store ≡ store)
+  unfolding called
+  twelve-back call number e = settled-back call number (firstRefusal (refusals (viewState s) store call)) e
 
-module _ (step : Step) (s : State) (store : Store) (call : Call) (calls : List Call) where
-  abbrev o : Outcome
-  o = step s store call
+  -- of the old four: "A call answered by anything but 0 changes nothing."
+  old-back : (call : OldCall) (answer : Option ℕ) → isMixedRefusal (byFour (exactBegunUnless s store call answer .answer)) ≡ true
+      → (exactBegunUnless s store call answer .state ≡ s) × (exactBegunUnless s store call answer .store ≡ store)
+  unfolding exactBegunUnless
+  old-back call none e = clash e refl
+  old-back call (some number) e = (refl, refl)
 
-  abbrev m : Made
-  m = made call (o .answered .answer)
+refused-back : (s : State) (store : Store) (call : Call) (reply : Reply) → replyOf (exactStep s store call .answered .answer) ≡ reply
+    → isMixedRefusal (byTwelve reply) ≡ true → (exactStep s store call .answered .state ≡ s) × (exactStep s store call .store ≡ store)
+refused-back s store call (refused number) e h = twelve-back s store call number e
+refused-back s store call (accepted answer) e h = clash h refl
 
-  abbrev later : Run
-  later = runBy step (o .answered .state) (o .store) calls
-
-  -- the list behind a first call
-  behind : RefusedGivesBack step → SameWithoutRefused step (o .answered .state) (o .store) calls → (reply : Reply)
-      → replyOf (o .answered .answer) ≡ reply
-      → runBy step s store (callsOf (acceptedOnly (m ∷ later .made))) ≡ ran (acceptedOnly (m ∷ later .made)) (later .state) (later .store)
-  unfolding runBy
-  behind back ih (refused number) e =
-      let given = back s store call number e in
-      let dropped = accepted-first m (later .made) (refused number) e in
-      ap (λ (l : List Made). runBy step s store (callsOf l)) dropped
-      ∙ ap₂ (λ (s′ : State) (store′ : Store). runBy step s′ store′ (callsOf (acceptedOnly (later .made)))) (sym (given .0)) (sym (given .1))
-      ∙ ih
-      ∙ ap (λ (l : List Made). ran l (later .state) (later .store)) (sym dropped)
-  behind back ih (accepted answer) e =
-      let stays = accepted-first m (later .made) (accepted answer) e in
-      ap (λ (l : List Made). runBy step s store (callsOf l)) stays
-      ∙ ap (λ (r : Run). ran (m ∷ r .made) (r .state) (r .store)) ih
-      ∙ ap (λ (l : List Made). ran l (later .state) (later .store)) (sym stays)
+pub mixed-gives-back : RefusedGivesBack exactMixedStep isMixedRefusal
+unfolding exactMixedStep
+mixed-gives-back s store (ofTwelve call) e = refused-back s store call _ refl e
+mixed-gives-back s store (ofFour call) e = old-back s store call (firstRefusal (oldAnswers (viewState s) store call)) e
 
 -- ---- a list of calls
 
-pub without-refused : (step : Step) → RefusedGivesBack step → (s : State) (store : Store) (calls : List Call)
-    → SameWithoutRefused step s store calls
-unfolding runBy acceptedOnly
-without-refused step back s store [] = refl
-without-refused step back s store (call ∷ calls) =
-    let o = step s store call in
-    behind step s store call calls back (without-refused step back (o .answered .state) (o .store) calls) (replyOf (o .answered .answer)) refl
-
--- ---- calls whose refusals are the model's
-
--- they give back what they were handed, where what is given without a refusal does
-pub called-gives-back : (accepts : Step) → RefusedGivesBack accepts → RefusedGivesBack (λ s store call. called s store call (accepts s store call))
-unfolding called settled
-called-gives-back accepts back s store call number e = go (firstRefusal (refusals (viewState s) store call)) e
-  where
-    go : (refusal : Option ℕ) → replyOf (settled s store refusal (accepts s store call) .answered .answer) ≡ refused number
-        → (settled s store refusal (accepts s store call) .answered .state ≡ s) × (settled s store refusal (accepts s store call) .store ≡ store)
-    go none e = back s store call number e
-    go (some n) e = (refl, refl)
-
 -- "The list without its refused calls, from the same start, gives every other call the same answer and ends with equal state and store.":
--- of the twelve calls in code, the state as a struct
-pub same-without-refused : (s : State) (store : Store) (calls : List Call) → SameWithoutRefused exactStep s store calls
-same-without-refused s store calls = without-refused exactStep (called-gives-back accepts accepts-back) s store calls
+-- of the calls in code, the state as a struct
+pub same-without-refused : (s : State) (store : Store) (calls : List MixedCall) → SameWithoutRefusedEvents exactMixedStep isMixedRefusal s store calls
+same-without-refused = without-refused-events exactMixedStep isMixedRefusal mixed-gives-back

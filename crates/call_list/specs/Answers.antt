@@ -2,13 +2,13 @@
 use Prim.Native.Nat.{ℕ}
 use mathlib.Core.List.{List, [], _∷_, _++_}
 use lib.ListN.{length, drop}
-use Rattle.model.specs.Run.{Made}
+use Rattle.four_state.specs.MixedLists.{MixedMade}
 use Rattle.call_rows.specs.Answers.{answerWords}
 
-unfoldable pub wordsOf : List Made → List ℕ
+unfoldable pub wordsOf : List MixedMade → List ℕ
 wordsOf [] = []
-wordsOf (m ∷ made) = answerWords (m .reply) .kind ∷ answerWords (m .reply) .value ∷ wordsOf made
+wordsOf (m ∷ made) = answerWords (m .answer) .kind ∷ answerWords (m .answer) .value ∷ wordsOf made
 
 -- the slice then; words behind the answers keep their values
-abbrev pub answersAfter : List Made → List ℕ → List ℕ
+abbrev pub answersAfter : List MixedMade → List ℕ → List ℕ
 answersAfter made answers = wordsOf made ++ drop (length (wordsOf made)) answers

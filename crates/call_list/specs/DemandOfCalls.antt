@@ -1,23 +1,23 @@
--- Demand 3 of the code's own steps, for every list of calls without limit: of whoever makes the calls one by one, by their `exact` clauses.
+-- Demand 3 of the code's own steps, for every list of the twelve calls and the old four without limit: of whoever makes the calls one by
+-- one, by their `exact` clauses.
 -- proofs/DemandLaws.antt has the theorem.
 use Prim.Native.Nat.{ℕ}
 use mathlib.Core.Path.{_≡_}
 use mathlib.Core.List.{List}
 use Rattle.cluster_list.specs.Read.{readList}
 use Rattle.model.specs.State.{Store}
-use Rattle.model.specs.Calls.{Call, done, accepted}
+use Rattle.model.specs.Calls.{done, accepted}
 use Rattle.model.specs.Step as step
 use Rattle.model.specs.Load as model
 use Rattle.model.specs.Load.{tableOrEmpty}
-use Rattle.model.specs.Run.{run}
 use Rattle.model.specs.Journal.{opened}
-use Rattle.model.specs.Demand3.{Demand3}
+use Rattle.model.specs.Layers.{EventRun, runEvents, viewRunBy, SameWithoutRefusedEvents}
 use Rattle.state.specs.declared.state.State.{State}
 use Rattle.state.specs.View.{viewState}
 use Rattle.state.specs.Outcome.{Outcome}
 use Rattle.load.specs.Exact.{load}
-use Rattle.manager.specs.Accepts.{exactStep}
-use Rattle.call_list.specs.Run.{Run, runBy, viewRun, SameWithoutRefused}
+use Rattle.four_state.specs.MixedLists.{MixedCall, MixedReply, isMixedRefusal, mixedRun, MixedDemand}
+use Rattle.call_list.specs.Run.{exactMixedStep}
 
 module _ (given : State) (list : List ℕ) (first : ℕ) (lent : Store) where
   -- what Load gives, of what it was handed: a state, a list, a first id and a store
@@ -28,17 +28,17 @@ module _ (given : State) (list : List ℕ) (first : ℕ) (lent : Store) where
   modelLoaded = model.load (viewState given) list first lent
 
   -- the calls made from there
-  abbrev pub ranFromLoad : List Call → Run
-  ranFromLoad calls = runBy exactStep (loaded .answered .state) (loaded .store) calls
+  abbrev pub ranFromLoad : List MixedCall → EventRun State MixedCall MixedReply
+  ranFromLoad calls = runEvents exactMixedStep (loaded .answered .state) (loaded .store) calls
 
-  pub record DemandOfCalls (calls : List Call) : Type 0 where
+  pub record DemandOfCalls (calls : List MixedCall) : Type 0 where
     -- "from an accepted Load"
     pub isAccepted : modelLoaded .reply ≡ accepted done
     -- "each handed the state and store that the one before left, with nobody else writing them": each call's answer, the state and the
     -- store are those of the model's run
-    pub seenAs : viewRun (ranFromLoad calls) ≡ run (modelLoaded .state) (modelLoaded .store) calls
-    -- demand 3 of that run
-    pub demand3 : Demand3 (opened (tableOrEmpty (readList list))) (modelLoaded .state) (modelLoaded .store) calls
+    pub seenAs : viewRunBy viewState (ranFromLoad calls) ≡ mixedRun (modelLoaded .state) (modelLoaded .store) calls
+    -- "demand 3, the table property, holds for that list"
+    pub demand3 : MixedDemand (opened (tableOrEmpty (readList list))) (modelLoaded .state) (modelLoaded .store) calls
     -- "The list without its refused calls, from the same start, gives every other call the same answer and ends with equal state and
     -- store.": the state as a struct
-    pub withoutRefused : SameWithoutRefused exactStep (loaded .answered .state) (loaded .store) calls
+    pub withoutRefused : SameWithoutRefusedEvents exactMixedStep isMixedRefusal (loaded .answered .state) (loaded .store) calls

@@ -5,7 +5,8 @@ use mathlib.Core.List.{List, []}
 use mathlib.Core.Option.{Option, none, some}
 use lib.Dec.{leb}
 use lib.ListN.{length}
-use Rattle.model.specs.Calls.{Call, done, Reply, refused, accepted}
+use Rattle.model.specs.Calls.{done, Reply, refused, accepted}
+use Rattle.four_state.specs.MixedLists.{MixedCall}
 use Rattle.call_list.specs.declared.ListReply.{ListReply}
 use Rattle.call_list.specs.declared.ListReply.the-variants.{Made, BadLoad, Malformed, ShortAnswers}
 
@@ -19,7 +20,7 @@ loadReply Malformed = none
 loadReply ShortAnswers = none
 
 -- the calls that were made: all of the list, or none
-abbrev pub callsMade : ListReply → List Call → List Call
+abbrev pub callsMade : ListReply → List MixedCall → List MixedCall
 callsMade Made calls = calls
 callsMade BadLoad calls = []
 callsMade Malformed calls = []
@@ -28,7 +29,7 @@ callsMade ShortAnswers calls = []
 -- ---- which it is
 
 -- by the rows and by the words that are lent for the answers, two for each call
-abbrev pub listReply : Option (List Call) → List ℕ → ListReply
+abbrev pub listReply : Option (List MixedCall) → List ℕ → ListReply
 listReply none answers = Malformed
 listReply (some calls) answers = cond (leb (2 * length calls) (length answers)) Made ShortAnswers
 
@@ -40,6 +41,6 @@ withLoad bad Malformed = Malformed
 withLoad bad ShortAnswers = ShortAnswers
 
 -- the calls of the rows; malformed ones have none
-abbrev pub callsGiven : Option (List Call) → List Call
+abbrev pub callsGiven : Option (List MixedCall) → List MixedCall
 callsGiven none = []
 callsGiven (some calls) = calls

@@ -1,18 +1,22 @@
-// Lists of calls, each handed the state and store that the one before left.
+// Lists of calls, the twelve and the old four, each handed the state and store that the one before left.
 pub mod loaded;
 
+use call_rows::answer_words::AnswerWords;
 use call_rows::answer_words::answer_words;
+use call_rows::answer_words::old_answer_words;
+use call_rows::row::MixedRequest;
 use call_rows::row::Row;
 use call_rows::row::RowRequest;
 use call_rows::row::row_at;
 use call_rows::row::row_block;
 use call_rows::row::row_request;
 use call_rows::row_list::rows_well_formed;
+use four_state::call::OldCall;
+use four_state::call::old_call;
 use manager::call;
 use refusal::BAD_STATE;
+use request::Request;
 use state::answer::Answer;
-use state::answer::Answered;
-use state::answer::refused;
 use state::state::State;
 ghost use mathlib.Core.Path.{_≡_};
 ghost use mathlib.Core.Bool.{true};
@@ -21,15 +25,15 @@ ghost use mathlib.Core.Option.{some};
 ghost use Prim.Native.Nat.{_+_, _/_, _≤_};
 ghost use lib.ListN.{length};
 ghost use lib.Seq.{sets};
-ghost use Rattle.model.specs.Calls.{Call};
 ghost use Rattle.model.specs.Journal.{Journal};
 ghost use Rattle.model.specs.Invariant.{Invariant};
+ghost use Rattle.request.specs.Call.{callOf};
 ghost use Rattle.state.specs.View.{viewState};
-ghost use Rattle.state.specs.Outcome.{replyOf, outcome};
+ghost use Rattle.four_state.specs.MixedLists.{MixedCall, ofTwelve, ofFour};
+ghost use Rattle.call_rows.specs.Row.{decodedRow};
 ghost use Rattle.call_rows.specs.Rows.{decoded, isGiven};
-ghost use Rattle.call_rows.specs.Answers.{answerWords};
 ghost use Rattle.call_list.specs.declared.ListReply.the-variants.{Made};
-ghost use Rattle.call_list.specs.WholeList.{replied, listOutcome, runOutcome, viewListOutcome, modelRunOutcome, GoesOn, RowMade, MadeFrom};
+ghost use Rattle.call_list.specs.WholeList.{replied, listOutcome, runOutcome, viewListOutcome, modelRunOutcome, GoesOn, rowAnswered, CallMade, MadeFrom};
 
 // What became of a list of calls: every call was made, or none was, because the list is malformed, the slice for its answers is too short,
 // or Load, where it comes before the list, was refused.
@@ -46,22 +50,58 @@ pub struct RepliedList {
     pub state: State,
 }
 
+// The two words of a call's answer, and the state then.
+struct RowAnswered {
+    words: AnswerWords,
+    state: State,
+}
+
+fn row_answered(words: AnswerWords, s: State) -> RowAnswered
+    ensures { λ r. ⌜ r ≡ rowAnswered words s ⌝ }
+{
+    RowAnswered {
+        words: words,
+        state: s,
+    }
+}
+
+// A call of the twelve is made.
+fn make_twelve(s: State, store: &mut [u8], request: Request, block: &[u8]) -> RowAnswered
+    ensures { λ r. ⌜ CallMade s (now (store .entry)) (ofTwelve (callOf request (now (block .entry)))) r (now (store .exit)) ⌝ }
+{
+    let made = call(s, store, request, block);
+    let answer = made.answer;
+    let state = made.state;
+    row_answered(answer_words(answer), state)
+}
+
+// A call of the old four is made, which writes no store.
+fn make_old(s: State, store: &[u8], old: OldCall) -> RowAnswered
+    ensures { λ r. ⌜ CallMade s (now (store .entry)) (ofFour old) r (now (store .entry)) ⌝ }
+{
+    let made = old_call(s, store, old);
+    let state = made.state;
+    row_answered(old_answer_words(made.answer), state)
+}
+
 // The call of a row is made. Of a malformed row nothing is said: `run` looks at all rows before it makes the first call.
-fn make_call(s: State, store: &mut [u8], row: Row, bytes: &[u8]) -> Answered
-    ensures { λ r. ⌜ RowMade s (now (store .entry)) row (now (bytes .entry)) (outcome r (now (store .exit))) ⌝ }
+fn make_call(s: State, store: &mut [u8], row: Row, bytes: &[u8]) -> RowAnswered
+    ensures { λ r. ⌜ ((call : MixedCall) → decodedRow row (now (bytes .entry)) ≡ some call → CallMade s (now (store .entry)) call r (now (store .exit))) ⌝ }
 {
     let RowRequest::WellFormed(request) = row_request(row, bytes.len()) else {
-        return refused(s, BAD_STATE);
+        return row_answered(answer_words(Answer::Refused(BAD_STATE)), s);
     };
-    call(s, store, request, row_block(row, bytes))
+    match request {
+        MixedRequest::Twelve(twelve) => make_twelve(s, store, twelve, row_block(row, bytes)),
+        MixedRequest::Old(old) => make_old(s, store, old),
+    }
 }
 
 // The two words of an answer are put into the slice at a place. There is room, which `run` sees before it makes the first call.
-fn put_answer(answers: &mut [u32], at: usize, answer: Answer)
+fn put_answer(answers: &mut [u32], at: usize, words: AnswerWords)
     requires { ⌜ at + 2 ≤ length (now answers) ⌝ }
-    ensures { λ r. ⌜ now (answers .exit) ≡ sets (now (answers .entry)) at (answerWords (replyOf answer) .kind ∷ answerWords (replyOf answer) .value ∷ []) ⌝ }
+    ensures { λ r. ⌜ now (answers .exit) ≡ sets (now (answers .entry)) at (words .kind ∷ words .value ∷ []) ⌝ }
 {
-    let words = answer_words(answer);
     answers[at] = words.kind;
     answers[at + 1] = words.value;
 }
@@ -70,15 +110,15 @@ fn put_answer(answers: &mut [u32], at: usize, answer: Answer)
 fn make_all(s: State, store: &mut [u8], words: &[u32], bytes: &[u8], answers: &mut [u32]) -> State
     requires { ⌜ isGiven (decoded (now words) (now bytes)) ≡ true ⌝ }
     requires { ⌜ length (now words) / 3 ≤ length (now answers) ⌝ }
-    ensures { λ r. ⌜ ((calls : List Call) → decoded (now (words .entry)) (now (bytes .entry)) ≡ some calls → MadeFrom s (now (store .entry)) (now (answers .entry)) calls r (now (store .exit)) (now (answers .exit))) ⌝ }
+    ensures { λ r. ⌜ ((calls : List MixedCall) → decoded (now (words .entry)) (now (bytes .entry)) ≡ some calls → MadeFrom s (now (store .entry)) (now (answers .entry)) calls r (now (store .exit)) (now (answers .exit))) ⌝ }
 {
     let mut state = s;
     let mut i = 0;
     let mut at = 0;
     while i < words.len() {
         let r = make_call(state, store, row_at(words, i), bytes);
-        let answer = r.answer;
-        put_answer(answers, at, answer);
+        let given = r.words;
+        put_answer(answers, at, given);
         state = r.state;
         i += 6;
         at += 2;
@@ -107,7 +147,7 @@ pub fn run(
 ) -> RepliedList
     ensures meaning { λ r. ⌜ viewListOutcome (listOutcome r (now (store .exit)) (now (answers .exit))) ≡ modelRunOutcome (viewState s) (now (store .entry)) (now (answers .entry)) (decoded (now (words .entry)) (now (bytes .entry))) ⌝ }
     ensures exact { λ r. ⌜ listOutcome r (now (store .exit)) (now (answers .exit)) ≡ runOutcome s (now (store .entry)) (now (answers .entry)) (decoded (now (words .entry)) (now (bytes .entry))) ⌝ }
-    ensures goes_on { λ r. ⌜ ((calls : List Call) → decoded (now (words .entry)) (now (bytes .entry)) ≡ some calls → r .reply ≡ Made → (j : Journal) → Invariant j (viewState s) (now (store .entry)) → GoesOn j s (now (store .entry)) calls (r .state) (now (store .exit))) ⌝ }
+    ensures goes_on { λ r. ⌜ ((calls : List MixedCall) → decoded (now (words .entry)) (now (bytes .entry)) ≡ some calls → r .reply ≡ Made → (j : Journal) → Invariant j (viewState s) (now (store .entry)) → GoesOn j s (now (store .entry)) calls (r .state) (now (store .exit))) ⌝ }
 {
     if !rows_well_formed(words, bytes) {
         return replied(ListReply::Malformed, s);

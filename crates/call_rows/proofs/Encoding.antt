@@ -13,46 +13,51 @@ use mir.Val.{Fits}
 use mir.Facts.{fits-le, fits-lit, fits-below}
 use lib.Seq.{take-append-seam, drop-append-seam}
 use borrow.Author.Tests.{le-leb}
-use Rattle.model.specs.Calls.{Call, transferStart, transferData, transferExit, deleteTransfer, process, work, cancel, revert, activate, rollback, finish, report}
-use Rattle.request.specs.declared.Request.{Request}
-use Rattle.request.specs.Call.{callOf}
+use Rattle.model.specs.Calls.{transferStart, transferData, transferExit, deleteTransfer, process, work, cancel, revert, activate, rollback, finish, report}
+use Rattle.four_state.specs.declared.call.OldCall.the-variants.{Activate, Cancel, Revert, Rollback}
+use Rattle.four_state.specs.MixedLists.{MixedCall, ofTwelve, ofFour}
+use Rattle.call_rows.specs.declared.row.MixedRequest.{MixedRequest}
 use Rattle.call_rows.specs.declared.row.Row.{Row}
-use Rattle.call_rows.specs.Row.{requestsByNumber, requested, requestWithin, decodedRow}
+use Rattle.call_rows.specs.Row.{mixedOf, requestsByNumber, requested, requestWithin, decodedRow}
 use Rattle.call_rows.specs.Rows.{before, decoded}
 use Rattle.call_rows.specs.Encoding.{rowWithNumber, encodedRow, blockIn, encodedFrom, encodedRows, encodedBytes, AllFit, NumbersFit}
 
 -- ---- a row is decoded as its call
 
 number-back : (n first : ℕ) (bytes : List ℕ)
-    → decodedRow (rowWithNumber n first) bytes ≡ Option·map (λ (request : Request). callOf request []) (requested (rowWithNumber n first))
+    → decodedRow (rowWithNumber n first) bytes ≡ Option·map (λ (request : MixedRequest). mixedOf request []) (requested (rowWithNumber n first))
 unfolding decodedRow requestWithin
 number-back n first bytes = rw (le-leb 0 (length bytes) (omega arith))
 
 module _ (front rest : List ℕ) where
-  row-back : (call : Call) → decodedRow (encodedRow (length front) call) (front ++ (blockIn call ++ rest)) ≡ some call
+  row-back : (call : MixedCall) → decodedRow (encodedRow (length front) call) (front ++ (blockIn call ++ rest)) ≡ some call
   unfolding encodedRow blockIn requested requestsByNumber decodedRow requestWithin
-  row-back (transferStart size) = number-back 0 size (front ++ rest)
-  row-back (transferData id counter block) =
+  row-back (ofTwelve (transferStart size)) = number-back 0 size (front ++ rest)
+  row-back (ofTwelve (transferData id counter block)) =
       let within : length front + length block ≤ length (front ++ (block ++ rest)) =
       omega (arith, length-append front (block ++ rest), length-append block rest) in
       let part : take (length block) (drop (length front) (front ++ (block ++ rest))) ≡ block =
       rw (drop-append-seam front (block ++ rest), take-append-seam block rest) in
       rw (le-leb (length front + length block) (length (front ++ (block ++ rest))) within, part)
-  row-back (transferExit id) = number-back 2 id (front ++ rest)
-  row-back (deleteTransfer id) = number-back 3 id (front ++ rest)
-  row-back (process id) = number-back 4 id (front ++ rest)
-  row-back (work n) = number-back 5 n (front ++ rest)
-  row-back (cancel id) = number-back 6 id (front ++ rest)
-  row-back revert = number-back 7 0 (front ++ rest)
-  row-back activate = number-back 8 0 (front ++ rest)
-  row-back rollback = number-back 9 0 (front ++ rest)
-  row-back finish = number-back 10 0 (front ++ rest)
-  row-back (report true) = number-back 11 1 (front ++ rest)
-  row-back (report false) = number-back 11 0 (front ++ rest)
+  row-back (ofTwelve (transferExit id)) = number-back 2 id (front ++ rest)
+  row-back (ofTwelve (deleteTransfer id)) = number-back 3 id (front ++ rest)
+  row-back (ofTwelve (process id)) = number-back 4 id (front ++ rest)
+  row-back (ofTwelve (work n)) = number-back 5 n (front ++ rest)
+  row-back (ofTwelve (cancel id)) = number-back 6 id (front ++ rest)
+  row-back (ofTwelve revert) = number-back 7 0 (front ++ rest)
+  row-back (ofTwelve activate) = number-back 8 0 (front ++ rest)
+  row-back (ofTwelve rollback) = number-back 9 0 (front ++ rest)
+  row-back (ofTwelve finish) = number-back 10 0 (front ++ rest)
+  row-back (ofTwelve (report true)) = number-back 11 1 (front ++ rest)
+  row-back (ofTwelve (report false)) = number-back 11 0 (front ++ rest)
+  row-back (ofFour Activate) = number-back 12 0 (front ++ rest)
+  row-back (ofFour (Cancel id)) = number-back 13 id (front ++ rest)
+  row-back (ofFour Revert) = number-back 14 0 (front ++ rest)
+  row-back (ofFour Rollback) = number-back 15 0 (front ++ rest)
 
 -- ---- and a list as its calls
 
-list-back : (front : List ℕ) (calls : List Call) → decoded (encodedFrom (length front) calls) (front ++ encodedBytes calls) ≡ some calls
+list-back : (front : List ℕ) (calls : List MixedCall) → decoded (encodedFrom (length front) calls) (front ++ encodedBytes calls) ≡ some calls
 unfolding encodedFrom encodedBytes decoded
 list-back front [] = refl
 list-back front (call ∷ calls) =
@@ -62,7 +67,7 @@ list-back front (call ∷ calls) =
     ap₂ before (row-back front (encodedBytes calls) call) later
 
 -- every list of calls has an encoding
-pub every-list : (calls : List Call) → decoded (encodedRows calls) (encodedBytes calls) ≡ some calls
+pub every-list : (calls : List MixedCall) → decoded (encodedRows calls) (encodedBytes calls) ≡ some calls
 every-list calls = list-back [] calls
 
 -- ---- in words of 32 bits and bytes
@@ -92,10 +97,10 @@ before-words r words f later (suc (suc (suc (suc zero)))) = f .start
 before-words r words f later (suc (suc (suc (suc (suc zero))))) = f .length
 before-words r words f later (suc (suc (suc (suc (suc (suc k)))))) = later k
 
-number-fits : (n first : ℕ) → n < 12 → Fits w32 first → RowFits (rowWithNumber n first)
+number-fits : (n first : ℕ) → n < 16 → Fits w32 first → RowFits (rowWithNumber n first)
 number-fits n first few h =
     record {
-      call = fits-below {n = 12} tt (omega arith);
+      call = fits-below {n = 16} tt (omega arith);
       reserved = fits-lit tt;
       first = h;
       second = fits-lit tt;
@@ -103,10 +108,10 @@ number-fits n first few h =
       length = fits-lit tt;
     }
 
-row-fits : (at : ℕ) (call : Call) → NumbersFit call → Fits w32 (at + length (blockIn call)) → RowFits (encodedRow at call)
+row-fits : (at : ℕ) (call : MixedCall) → NumbersFit call → Fits w32 (at + length (blockIn call)) → RowFits (encodedRow at call)
 unfolding encodedRow blockIn NumbersFit
-row-fits at (transferStart size) h end = number-fits 0 size (omega arith) h
-row-fits at (transferData id counter block) h end =
+row-fits at (ofTwelve (transferStart size)) h end = number-fits 0 size (omega arith) h
+row-fits at (ofTwelve (transferData id counter block)) h end =
     record {
       call = fits-lit tt;
       reserved = fits-lit tt;
@@ -115,19 +120,23 @@ row-fits at (transferData id counter block) h end =
       start = fits-le (omega arith) end;
       length = fits-le (omega arith) end;
     }
-row-fits at (transferExit id) h end = number-fits 2 id (omega arith) h
-row-fits at (deleteTransfer id) h end = number-fits 3 id (omega arith) h
-row-fits at (process id) h end = number-fits 4 id (omega arith) h
-row-fits at (work n) h end = number-fits 5 n (omega arith) h
-row-fits at (cancel id) h end = number-fits 6 id (omega arith) h
-row-fits at revert h end = number-fits 7 0 (omega arith) (fits-lit tt)
-row-fits at activate h end = number-fits 8 0 (omega arith) (fits-lit tt)
-row-fits at rollback h end = number-fits 9 0 (omega arith) (fits-lit tt)
-row-fits at finish h end = number-fits 10 0 (omega arith) (fits-lit tt)
-row-fits at (report true) h end = number-fits 11 1 (omega arith) (fits-lit tt)
-row-fits at (report false) h end = number-fits 11 0 (omega arith) (fits-lit tt)
+row-fits at (ofTwelve (transferExit id)) h end = number-fits 2 id (omega arith) h
+row-fits at (ofTwelve (deleteTransfer id)) h end = number-fits 3 id (omega arith) h
+row-fits at (ofTwelve (process id)) h end = number-fits 4 id (omega arith) h
+row-fits at (ofTwelve (work n)) h end = number-fits 5 n (omega arith) h
+row-fits at (ofTwelve (cancel id)) h end = number-fits 6 id (omega arith) h
+row-fits at (ofTwelve revert) h end = number-fits 7 0 (omega arith) (fits-lit tt)
+row-fits at (ofTwelve activate) h end = number-fits 8 0 (omega arith) (fits-lit tt)
+row-fits at (ofTwelve rollback) h end = number-fits 9 0 (omega arith) (fits-lit tt)
+row-fits at (ofTwelve finish) h end = number-fits 10 0 (omega arith) (fits-lit tt)
+row-fits at (ofTwelve (report true)) h end = number-fits 11 1 (omega arith) (fits-lit tt)
+row-fits at (ofTwelve (report false)) h end = number-fits 11 0 (omega arith) (fits-lit tt)
+row-fits at (ofFour Activate) h end = number-fits 12 0 (omega arith) (fits-lit tt)
+row-fits at (ofFour (Cancel id)) h end = number-fits 13 id (omega arith) h
+row-fits at (ofFour Revert) h end = number-fits 14 0 (omega arith) (fits-lit tt)
+row-fits at (ofFour Rollback) h end = number-fits 15 0 (omega arith) (fits-lit tt)
 
-rows-fit : (at : ℕ) (calls : List Call) → ((call : Call) → List·Memᴰ call calls → NumbersFit call)
+rows-fit : (at : ℕ) (calls : List MixedCall) → ((call : MixedCall) → List·Memᴰ call calls → NumbersFit call)
     → Fits w32 (at + length (encodedBytes calls)) → AllFit w32 (encodedFrom at calls)
 unfolding encodedFrom encodedBytes
 rows-fit at [] numbers end = λ k. fits-lit tt
@@ -138,28 +147,32 @@ rows-fit at (call ∷ calls) numbers end =
     before-words (encodedRow at call) (encodedFrom (at + length (blockIn call)) calls) f later
 
 -- the words of a list of calls fit a `u32` slice
-pub words-fit : (calls : List Call) → ((call : Call) → List·Memᴰ call calls → NumbersFit call) → Fits w32 (length (encodedBytes calls))
+pub words-fit : (calls : List MixedCall) → ((call : MixedCall) → List·Memᴰ call calls → NumbersFit call) → Fits w32 (length (encodedBytes calls))
     → AllFit w32 (encodedRows calls)
 words-fit calls numbers short = rows-fit 0 calls numbers (fits-le (omega arith) short)
 
 -- no call is asked for more: where the words of a call fit a `u32` slice, its numbers fit
-pub numbers-fit : (call : Call) → AllFit w32 (encodedRows (call ∷ [])) → NumbersFit call
+pub numbers-fit : (call : MixedCall) → AllFit w32 (encodedRows (call ∷ [])) → NumbersFit call
 unfolding encodedFrom encodedRow NumbersFit
-numbers-fit (transferStart size) words = words 2
-numbers-fit (transferData id counter block) words = (words 2, words 3)
-numbers-fit (transferExit id) words = words 2
-numbers-fit (deleteTransfer id) words = words 2
-numbers-fit (process id) words = words 2
-numbers-fit (work n) words = words 2
-numbers-fit (cancel id) words = words 2
-numbers-fit revert words = tt
-numbers-fit activate words = tt
-numbers-fit rollback words = tt
-numbers-fit finish words = tt
-numbers-fit (report good) words = tt
+numbers-fit (ofTwelve (transferStart size)) words = words 2
+numbers-fit (ofTwelve (transferData id counter block)) words = (words 2, words 3)
+numbers-fit (ofTwelve (transferExit id)) words = words 2
+numbers-fit (ofTwelve (deleteTransfer id)) words = words 2
+numbers-fit (ofTwelve (process id)) words = words 2
+numbers-fit (ofTwelve (work n)) words = words 2
+numbers-fit (ofTwelve (cancel id)) words = words 2
+numbers-fit (ofTwelve revert) words = tt
+numbers-fit (ofTwelve activate) words = tt
+numbers-fit (ofTwelve rollback) words = tt
+numbers-fit (ofTwelve finish) words = tt
+numbers-fit (ofTwelve (report good)) words = tt
+numbers-fit (ofFour Activate) words = tt
+numbers-fit (ofFour (Cancel id)) words = words 2
+numbers-fit (ofFour Revert) words = tt
+numbers-fit (ofFour Rollback) words = tt
 
 -- and its bytes a `u8` slice
-pub bytes-fit : (calls : List Call) → ((call : Call) → List·Memᴰ call calls → AllFit w8 (blockIn call))
+pub bytes-fit : (calls : List MixedCall) → ((call : MixedCall) → List·Memᴰ call calls → AllFit w8 (blockIn call))
     → AllFit w8 (encodedBytes calls)
 unfolding encodedBytes
 bytes-fit [] blocks = λ k. fits-lit tt

@@ -11,19 +11,18 @@ use lib.ListN.{length, drop, getD, length-drop, drop-of-length-le}
 use lib.Seq.{drop-cons}
 use borrow.Author.Tests.{leb-true, leb-false}
 use Rattle.base.proofs.Tests.{bool-cases, none-some}
-use Rattle.model.specs.Calls.{Call}
-use Rattle.request.specs.declared.Request.{Request}
-use Rattle.request.specs.Call.{callOf}
+use Rattle.four_state.specs.MixedLists.{MixedCall}
 use Rattle.call_rows.specs.declared.row.Row.{Row}
+use Rattle.call_rows.specs.declared.row.MixedRequest.{MixedRequest}
 use Rattle.call_rows.specs.declared.row.RowRequest.{RowRequest}
 use Rattle.call_rows.specs.declared.row.RowRequest.the-variants.{WellFormed, Malformed}
-use Rattle.call_rows.specs.Row.{row, rowAt, blockOf, requestIn, requestWithin, decodedRow}
+use Rattle.call_rows.specs.Row.{row, rowAt, blockOf, mixedOf, requestIn, requestWithin, decodedRow}
 use Rattle.call_rows.specs.Rows.{before, decoded, isGiven}
 
 -- ---- a row
 
 module _ (r : Row) (bytes : List ℕ) where
-  pub row-decoded : (request : Request) → requestWithin r (length bytes) ≡ some request → decodedRow r bytes ≡ some (callOf request (blockOf r bytes))
+  pub row-decoded : (request : MixedRequest) → requestWithin r (length bytes) ≡ some request → decodedRow r bytes ≡ some (mixedOf request (blockOf r bytes))
   unfolding decodedRow
   row-decoded request e = rw e
 
@@ -80,20 +79,20 @@ no-words-left words bytes i h = ap (λ (l : List ℕ). decoded l bytes) (drop-of
 
 -- ---- a list that is given begins with a call, and what is left is given
 
-pub record First (a : Option Call) (b : Option (List Call)) (calls : List Call) : Type 0 where
-  pub call : Call
-  pub rest : List Call
+pub record First (a : Option MixedCall) (b : Option (List MixedCall)) (calls : List MixedCall) : Type 0 where
+  pub call : MixedCall
+  pub rest : List MixedCall
   pub here : a ≡ some call
   pub later : b ≡ some rest
   pub both : calls ≡ call ∷ rest
 
-first-of : (a : Option Call) (b : Option (List Call)) (calls : List Call) → before a b ≡ some calls → First a b calls
+first-of : (a : Option MixedCall) (b : Option (List MixedCall)) (calls : List MixedCall) → before a b ≡ some calls → First a b calls
 first-of none b calls e = none-some e
 first-of (some call) none calls e = none-some e
 first-of (some call) (some rest) calls e =
     record { call = call; rest = rest; here = refl; later = refl; both = sym (Option·some-injective _ _ e) }
 
-module _ (words bytes : List ℕ) (i : ℕ) (calls : List Call) (given : decoded (drop i words) bytes ≡ some calls) where
+module _ (words bytes : List ℕ) (i : ℕ) (calls : List MixedCall) (given : decoded (drop i words) bytes ≡ some calls) where
   -- while words are left, a whole row is
   pub whole-row : i < length words → i + 6 ≤ length words
   whole-row h =
@@ -107,7 +106,7 @@ module _ (words bytes : List ℕ) (i : ℕ) (calls : List Call) (given : decoded
   no-calls-left h = Option·some-injective _ _ (sym given ∙ no-words-left words bytes i h)
 
 -- six words for each call
-pub six-for-each : (words bytes : List ℕ) (calls : List Call) → decoded words bytes ≡ some calls → length words ≡ 6 * length calls
+pub six-for-each : (words bytes : List ℕ) (calls : List MixedCall) → decoded words bytes ≡ some calls → length words ≡ 6 * length calls
 unfolding decoded
 six-for-each [] bytes calls e = omega (arith, ap length (Option·some-injective _ _ e))
 six-for-each (a ∷ []) bytes calls e = none-some e
@@ -121,7 +120,7 @@ six-for-each (a ∷ b ∷ c ∷ d ∷ e ∷ f ∷ words) bytes calls g =
 
 -- ---- the check: the whole list is given exactly if what is left is
 
-given-behind : (call : Call) (calls : Option (List Call)) → isGiven (before (some call) calls) ≡ isGiven calls
+given-behind : (call : MixedCall) (calls : Option (List MixedCall)) → isGiven (before (some call) calls) ≡ isGiven calls
 given-behind call none = refl
 given-behind call (some calls) = refl
 
@@ -134,18 +133,18 @@ module _ (words bytes : List ℕ) (i : ℕ) (same : isGiven (decoded words bytes
 
   -- r is the row at i, and answer what its request is told to be
   module _ (whole : i + 6 ≤ length words) (r : Row) (is : r ≡ rowAt words i) (answer : RowRequest) where
-    here : (o : Option Request) → requestIn answer ≡ o → requestIn answer ≡ requestWithin r (length bytes)
+    here : (o : Option MixedRequest) → requestIn answer ≡ o → requestIn answer ≡ requestWithin r (length bytes)
         → requestWithin (rowAt words i) (length bytes) ≡ o
     here o e told = ap (λ (x : Row). requestWithin x (length bytes)) (sym is) ∙ sym told ∙ e
 
     pub check-stops : answer ≡ Malformed → requestIn answer ≡ requestWithin r (length bytes) → false ≡ isGiven (decoded words bytes)
     check-stops e told =
         sym (same ∙ ap isGiven (first-row words bytes i whole
-        ∙ ap (λ (x : Option Call). before x (decoded (drop (i + 6) words) bytes)) (row-malformed (rowAt words i) bytes (here none (ap requestIn e) told))))
+        ∙ ap (λ (x : Option MixedCall). before x (decoded (drop (i + 6) words) bytes)) (row-malformed (rowAt words i) bytes (here none (ap requestIn e) told))))
 
-    pub check-goes-on : (request : Request) → answer ≡ WellFormed request → requestIn answer ≡ requestWithin r (length bytes)
+    pub check-goes-on : (request : MixedRequest) → answer ≡ WellFormed request → requestIn answer ≡ requestWithin r (length bytes)
         → isGiven (decoded words bytes) ≡ isGiven (decoded (drop (i + 6) words) bytes)
     check-goes-on request e told =
         same ∙ ap isGiven (first-row words bytes i whole
-        ∙ ap (λ (x : Option Call). before x (decoded (drop (i + 6) words) bytes)) (row-decoded (rowAt words i) bytes request (here (some request) (ap requestIn e) told)))
+        ∙ ap (λ (x : Option MixedCall). before x (decoded (drop (i + 6) words) bytes)) (row-decoded (rowAt words i) bytes request (here (some request) (ap requestIn e) told)))
         ∙ given-behind _ (decoded (drop (i + 6) words) bytes)

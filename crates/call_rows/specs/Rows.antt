@@ -4,17 +4,17 @@ use Prim.Native.Nat.{ℕ}
 use mathlib.Core.Bool.{Bool, true, false}
 use mathlib.Core.List.{List, [], _∷_}
 use mathlib.Core.Option.{Option, none, some}
-use Rattle.model.specs.Calls.{Call}
+use Rattle.four_state.specs.MixedLists.{MixedCall}
 use Rattle.call_rows.specs.Row.{row, decodedRow}
 
 -- a call before others, if there are both
-abbrev pub before : Option Call → Option (List Call) → Option (List Call)
+abbrev pub before : Option MixedCall → Option (List MixedCall) → Option (List MixedCall)
 before none calls = none
 before (some call) none = none
 before (some call) (some calls) = some (call ∷ calls)
 
 -- the calls of a list of words, with their blocks in a byte string
-unfoldable pub decoded : List ℕ → List ℕ → Option (List Call)
+unfoldable pub decoded : List ℕ → List ℕ → Option (List MixedCall)
 decoded [] bytes = some []
 decoded (a ∷ []) bytes = none
 decoded (a ∷ b ∷ []) bytes = none
@@ -24,6 +24,6 @@ decoded (a ∷ b ∷ c ∷ d ∷ e ∷ []) bytes = none
 decoded (a ∷ b ∷ c ∷ d ∷ e ∷ f ∷ words) bytes = before (decodedRow (row a b c d e f) bytes) (decoded words bytes)
 
 -- whether there is a list of calls
-abbrev pub isGiven : Option (List Call) → Bool
+abbrev pub isGiven : Option (List MixedCall) → Bool
 isGiven none = false
 isGiven (some calls) = true

@@ -2,9 +2,10 @@
 use state::answer::Answer;
 ghost use mathlib.Core.Path.{_≡_};
 ghost use Rattle.state.specs.Outcome.{replyOf};
+ghost use Rattle.four_state.specs.MixedLists.{byTwelve, byFour};
 ghost use Rattle.call_rows.specs.Answers.{words, answerWords};
 
-// Which of the answers it is, and the id or the refusal number; 0 where there is none.
+// Which of the answers it is, and the id, the refusal number or the old answer; 0 where there is none.
 pub struct AnswerWords {
     pub kind: u32,
     pub value: u32,
@@ -19,9 +20,9 @@ fn two_words(kind: u32, value: u32) -> AnswerWords
     }
 }
 
-// The two words of an answer.
+// The two words of an answer of the twelve.
 pub fn answer_words(answer: Answer) -> AnswerWords
-    ensures { λ r. ⌜ r ≡ answerWords (replyOf answer) ⌝ }
+    ensures { λ r. ⌜ r ≡ answerWords (byTwelve (replyOf answer)) ⌝ }
 {
     match answer {
         Answer::Id(id) => two_words(0, id),
@@ -38,4 +39,11 @@ pub fn answer_words(answer: Answer) -> AnswerWords
         Answer::CleaningFailed => two_words(11, 0),
         Answer::Refused(number) => two_words(12, number),
     }
+}
+
+// The two words of an answer of the old four.
+pub fn old_answer_words(answer: u8) -> AnswerWords
+    ensures { λ r. ⌜ r ≡ answerWords (byFour answer) ⌝ }
+{
+    two_words(13, answer as u32)
 }

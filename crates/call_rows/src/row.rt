@@ -1,9 +1,12 @@
 // A call in numbers: a row of six words, and a block in a byte string that is lent beside the rows.
+use four_state::call::OldCall;
 use request::Request;
 ghost use mathlib.Core.Path.{_≡_};
 ghost use Prim.Native.Nat.{_+_, _≤_};
-ghost use lib.ListN.{length};
-ghost use Rattle.call_rows.specs.Row.{rowAt, blockOf, requestIn, requestIf, requested, requestWithin};
+ghost use mathlib.Core.Option.{none};
+ghost use lib.ListN.{length, getD};
+ghost use Rattle.call_rows.specs.declared.row.MixedRequest.the-variants.{Twelve, Old};
+ghost use Rattle.call_rows.specs.Row.{rowAt, blockOf, requestIn, requestIf, hasOneNumber, requestsByNumber, requested, requestWithin};
 
 // The number of the call, a word that is 0 and kept for later use, the call's two numbers, and the start and length of its block.
 pub struct Row {
@@ -15,9 +18,15 @@ pub struct Row {
     pub length: u32,
 }
 
+// A call of the twelve, whose block lies in the byte string, or one of the old four.
+pub enum MixedRequest {
+    Twelve(Request),
+    Old(OldCall),
+}
+
 // The request of a row, or that it has none.
 pub enum RowRequest {
-    WellFormed(Request),
+    WellFormed(MixedRequest),
     Malformed,
 }
 
@@ -36,14 +45,49 @@ pub fn row_at(words: &[u32], i: usize) -> Row
     }
 }
 
-// A request if what is demanded of its row holds.
-fn request_if(holds: bool, request: Request) -> RowRequest
-    ensures { λ r. ⌜ requestIn r ≡ requestIf holds request ⌝ }
+// A call of the twelve if what is demanded of its row holds.
+fn twelve_if(holds: bool, request: Request) -> RowRequest
+    ensures { λ r. ⌜ requestIn r ≡ requestIf holds (Twelve request) ⌝ }
 {
     if holds {
-        return RowRequest::WellFormed(request);
+        return RowRequest::WellFormed(MixedRequest::Twelve(request));
     }
     RowRequest::Malformed
+}
+
+// An old call if what is demanded of its row holds.
+fn old_if(holds: bool, call: OldCall) -> RowRequest
+    ensures { λ r. ⌜ requestIn r ≡ requestIf holds (Old call) ⌝ }
+{
+    if holds {
+        return RowRequest::WellFormed(MixedRequest::Old(call));
+    }
+    RowRequest::Malformed
+}
+
+// Whether a row has no second number and no block.
+fn has_one_number(row: Row) -> bool
+    ensures { λ r. ⌜ r ≡ hasOneNumber row ⌝ }
+{
+    (row.second == 0) & ((row.start == 0) & (row.length == 0))
+}
+
+// The request of a row by its number, which is above those of the twelve: `request_of` has seen them.
+fn old_request(row: Row) -> RowRequest
+    requires { ⌜ 12 ≤ row .call ⌝ }
+    ensures { λ r. ⌜ requestIn r ≡ getD (requestsByNumber row) (row .call) none ⌝ }
+{
+    let first = row.first;
+    let one_number = has_one_number(row);
+    let no_number = (first == 0) & one_number;
+    let call = row.call;
+    match call {
+        12 => old_if(no_number, OldCall::Activate),
+        13 => old_if(one_number, OldCall::Cancel(first)),
+        14 => old_if(no_number, OldCall::Revert),
+        15 => old_if(no_number, OldCall::Rollback),
+        _ => RowRequest::Malformed,
+    }
 }
 
 // The request that the words of a row say, wherever its block lies.
@@ -54,23 +98,23 @@ fn request_of(row: Row) -> RowRequest
         return RowRequest::Malformed;
     }
     let first = row.first;
-    let one_number = (row.second == 0) & ((row.start == 0) & (row.length == 0));
+    let one_number = has_one_number(row);
     let no_number = (first == 0) & one_number;
     let call = row.call;
     match call {
-        0 => request_if(one_number, Request::TransferStart(first)),
-        1 => RowRequest::WellFormed(Request::TransferData(first, row.second)),
-        2 => request_if(one_number, Request::TransferExit(first)),
-        3 => request_if(one_number, Request::DeleteTransfer(first)),
-        4 => request_if(one_number, Request::Process(first)),
-        5 => request_if(one_number, Request::Work(first)),
-        6 => request_if(one_number, Request::Cancel(first)),
-        7 => request_if(no_number, Request::Revert),
-        8 => request_if(no_number, Request::Activate),
-        9 => request_if(no_number, Request::Rollback),
-        10 => request_if(no_number, Request::Finish),
-        11 => request_if((first <= 1) & one_number, Request::Report(first == 1)),
-        _ => RowRequest::Malformed,
+        0 => twelve_if(one_number, Request::TransferStart(first)),
+        1 => RowRequest::WellFormed(MixedRequest::Twelve(Request::TransferData(first, row.second))),
+        2 => twelve_if(one_number, Request::TransferExit(first)),
+        3 => twelve_if(one_number, Request::DeleteTransfer(first)),
+        4 => twelve_if(one_number, Request::Process(first)),
+        5 => twelve_if(one_number, Request::Work(first)),
+        6 => twelve_if(one_number, Request::Cancel(first)),
+        7 => twelve_if(no_number, Request::Revert),
+        8 => twelve_if(no_number, Request::Activate),
+        9 => twelve_if(no_number, Request::Rollback),
+        10 => twelve_if(no_number, Request::Finish),
+        11 => twelve_if((first <= 1) & one_number, Request::Report(first == 1)),
+        _ => old_request(row),
     }
 }
 

@@ -3,13 +3,16 @@ use cases::show;
 use state::phase::phase_number;
 use state::state::State;
 
+// A word and a number behind it.
+fn show_numbered(word: &[u8], value: u32) {
+    show::bytes(word);
+    show::number(value);
+}
+
 // The name of an answer by its two words.
 fn show_answer(kind: u32, value: u32) {
     match kind {
-        0 => {
-            show::bytes(b"id ");
-            show::number(value);
-        }
+        0 => show_numbered(b"id ", value),
         1 => show::bytes(b"Done"),
         2 => show::bytes(b"Working"),
         3 => show::bytes(b"Processed"),
@@ -21,10 +24,9 @@ fn show_answer(kind: u32, value: u32) {
         9 => show::bytes(b"NotAbleToRollback"),
         10 => show::bytes(b"NotAbleToRevert"),
         11 => show::bytes(b"CleaningFailed"),
-        _ => {
-            show::bytes(b"refused ");
-            show::number(value);
-        }
+        12 => show_numbered(b"refused ", value),
+        13 => show_numbered(b"old ", value),
+        _ => show_numbered(b"unknown kind ", kind),
     }
 }
 

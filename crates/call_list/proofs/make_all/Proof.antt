@@ -44,21 +44,21 @@ make-call-requires : tie.Need-make-call-requires Inv-loop μ-loop
 make-call-requires c κs = search needs
 
 put-answer-requires : tie.Need-put-answer-requires Inv-loop μ-loop
-put-answer-requires c κs = room-here (c .before .before .before .before .before .before)
+put-answer-requires c κs = room-here (c .before .before .before .before .before .before .before)
 
 add-i : tie.Need-add-i Inv-loop μ-loop
-add-i c = omega (arith, places-fit (c .before .before .before .before .before .before .before .before .before .before))
+add-i c = omega (arith, places-fit (c .before .before .before .before .before .before .before .before .before .before .before))
 
 add-at : tie.Need-add-at Inv-loop μ-loop
-add-at c = omega (arith, places-fit (c .before .before .before .before .before .before .before .before .before .before))
+add-at c = omega (arith, places-fit (c .before .before .before .before .before .before .before .before .before .before .before))
 
 loop-less : tie.Need-loop-less Inv-loop μ-loop
-loop-less c = omega (arith, row-here (c .before .before .before .before .before .before .before .before .before .before))
+loop-less c = omega (arith, row-here (c .before .before .before .before .before .before .before .before .before .before .before))
 
 loop-again : tie.Need-loop-again Inv-loop μ-loop
 loop-again c =
     let put = c .before .before .before in
-    let made = put .before .before .before .before in
+    let made = put .before .before .before .before .before in
     let row = made .before in
     let h = row .before .before in
     let l = h .before .loop in

@@ -1,13 +1,10 @@
--- `call_list::put_answer` meets its contract: the two words of the answer, one behind the other. Assumes nothing.
+-- `call_list::put_answer` meets its contract: the two words, one behind the other. Assumes nothing.
 use borrow.Author.Needs.{needs}
 use native.Mathlib.Omega.{arith}
 use native.Mathlib.Numerals.{add-one}
 use lib.ListN.{length-set}
 use Rattle.call_list.proofs.put_answer.Statement.{statement}
 use Rattle.call_list.proofs.put_answer.Tie as tie
-
-answer-words-requires : tie.Need-answer-words-requires
-answer-words-requires c κs = search needs
 
 mul-answers : tie.Need-mul-answers
 mul-answers c = search needs
@@ -28,13 +25,12 @@ same-length : tie.Need-same-length
 same-length c = search needs
 
 returns : tie.Need-returns
-returns c = rw (add-one, c .answer-words .ensures)
+returns c = rw add-one
 
 pub put-answer-spec : {M : Type 1} → statement M
 put-answer-spec =
     tie.close
     (tie.spec
-    answer-words-requires
     mul-answers
     slice-write-answers
     add-answers

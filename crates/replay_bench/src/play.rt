@@ -5,6 +5,7 @@ ghost use lib.ListN.{length};
 ghost use Rattle.replay_bench.specs.Bench.{held, lineAfter, afterText, afterLine};
 use crate::reading::reading_line;
 use crate::show::show_answer;
+use crate::show::show_number;
 use crate::show::show_text;
 use crate::show::show_unknown;
 use script::line::ScriptLine;
@@ -42,6 +43,7 @@ fn show_line_answer(
 ) -> bool {
     match answer {
         LineAnswer::Answer(given) => show_answer(given),
+        LineAnswer::Old(n) => show_number(b"old ", n as u32),
         LineAnswer::Unknown => show_unknown(),
         LineAnswer::Shown => {
             let s = kept.state;

@@ -10,6 +10,7 @@ use crate::show::show_text;
 use crate::show::show_unknown;
 use change_info::change_info;
 use cluster_info::cluster_info;
+use four_state::status::status;
 use payload::payload;
 use payload::payload_check;
 use progress::progress;
@@ -67,7 +68,7 @@ fn changes_line(s: State, store: &[u8], room: u32, buffer: &mut [u8]) -> bool {
     show_report(reply, buffer)
 }
 
-// A line of a reading call, or the one that shows the store. Any other is `unknown`.
+// A line of a reading call or of the old status, or the one that shows the store. Any other is `unknown`.
 pub fn reading_line(s: State, store: &[u8], line: ScriptLine, buffer: &mut [u8]) -> bool {
     match line {
         ScriptLine::Packages { room } => show_packages(packages_by_value(s, store, room as usize)),
@@ -76,6 +77,7 @@ pub fn reading_line(s: State, store: &[u8], line: ScriptLine, buffer: &mut [u8])
         ScriptLine::Payload { id } => show_bytes(b"payload ", payload(s, store, id)),
         ScriptLine::Check { id } => show_number(b"check ", payload_check(s, store, id)),
         ScriptLine::Progress => show_reply(b"progress ", progress(s, store)),
+        ScriptLine::OldStatus => show_number(b"old ", status(s, store) as u32),
         ScriptLine::Store => show_bytes(b"store ", store),
         _ => show_unknown(),
     }

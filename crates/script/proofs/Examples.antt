@@ -8,6 +8,7 @@ use mathlib.Core.Option.{none, some}
 use Rattle.base.specs.Quoted.{bytes}
 use Rattle.base.proofs.Tables.{_gives_, AllHold}
 use Rattle.request.specs.declared.Request.the-variants as call
+use Rattle.four_state.specs.declared.call.OldCall.the-variants as old
 use Rattle.script.specs.declared.line.ScriptLine.{ScriptLine}
 use Rattle.script.specs.declared.line.ScriptLine.the-variants as line
 use Rattle.script.specs.Gathered.{nothingGathered, lineSoFar, withPart}
@@ -34,6 +35,11 @@ lines-computed : AllHold lineOf
     ∷ "finish" gives line.Call call.Finish
     ∷ "report good" gives line.Call (call.Report true)
     ∷ "report bad" gives line.Call (call.Report false)
+    ∷ "old status" gives line.OldStatus
+    ∷ "old activate" gives line.Old old.Activate
+    ∷ "old cancel 14" gives line.Old (old.Cancel 14)
+    ∷ "old revert" gives line.Old old.Revert
+    ∷ "old rollback" gives line.Old old.Rollback
     ∷ "packages 8" gives line.Packages 8
     ∷ "clusters 9" gives line.Clusters 9
     ∷ "changes 10" gives line.Changes 10
@@ -57,6 +63,9 @@ rooms-computed : AllHold lineOf
     ∷ "start 4294967296" gives line.Unknown
     ∷ "data 0 4294967296 -" gives line.Unknown
     ∷ "poke 4294967296 -" gives line.Unknown
+    ∷ "old cancel 0" gives line.Old (old.Cancel 0)
+    ∷ "old cancel 4294967295" gives line.Old (old.Cancel 4294967295)
+    ∷ "old cancel 4294967296" gives line.Unknown
     ∷ "packages 64" gives line.Packages 64
     ∷ "packages 65" gives line.Unknown
     ∷ "clusters 65536" gives line.Clusters 65536
@@ -96,6 +105,35 @@ unknown-computed : AllHold lineOf
     ∷ [])
 unfolding computing
 unknown-computed = refl
+
+-- "`old` alone, `old finish`, `old cancel` without id and any word more are `unknown`", and so are words and numbers of another form
+old-unknown-computed : AllHold lineOf
+    ("old" gives line.Unknown
+    ∷ "old " gives line.Unknown
+    ∷ "old 1" gives line.Unknown
+    ∷ "old finish" gives line.Unknown
+    ∷ "old process 1" gives line.Unknown
+    ∷ "old cancel" gives line.Unknown
+    ∷ "old cancel " gives line.Unknown
+    ∷ "old cancel 01" gives line.Unknown
+    ∷ "old cancel  1" gives line.Unknown
+    ∷ "old cancel 1 " gives line.Unknown
+    ∷ "old cancel 1 2" gives line.Unknown
+    ∷ "old cancel status" gives line.Unknown
+    ∷ "old status 1" gives line.Unknown
+    ∷ "old status " gives line.Unknown
+    ∷ "old  status" gives line.Unknown
+    ∷ "old activate " gives line.Unknown
+    ∷ "old activate 1" gives line.Unknown
+    ∷ "old revert 1" gives line.Unknown
+    ∷ "old rollback 1" gives line.Unknown
+    ∷ "old activate revert" gives line.Unknown
+    ∷ "olds status" gives line.Unknown
+    ∷ "Old status" gives line.Unknown
+    ∷ "status" gives line.Unknown
+    ∷ [])
+unfolding computing
+old-unknown-computed = refl
 
 -- a line behind other text
 prefix-computed : AllHold (λ (at : ℕ). scriptLineAt (bytes "7 data 1 2 =a") at)

@@ -8,6 +8,7 @@ use Rattle.base.specs.Quoted.{bytes}
 use Rattle.text.specs.Word.{sameBytes}
 use Rattle.text.specs.Then.{andThen}
 use Rattle.request.specs.declared.Request.the-variants as call
+use Rattle.four_state.specs.declared.call.OldCall.the-variants as old
 use Rattle.script.specs.declared.line.ScriptLine.{ScriptLine}
 use Rattle.script.specs.declared.line.ScriptLine.the-variants as line
 use Rattle.script.specs.Limits.{numberMost, storeMost, recordsMost, reportMost}
@@ -100,6 +101,25 @@ sessionLine s =
     (cond (sameBytes s (bytes "finish")) (line.Call call.Finish)
     (showLine s))))
 
+-- ---- lines of the old calls: the words behind `old`
+
+-- "`old status`, `old activate`, .. `old revert`, `old rollback`"
+unfoldable pub oldFixedLine : List ℕ → ScriptLine
+oldFixedLine s =
+    cond (sameBytes s (bytes "status")) line.OldStatus
+    (cond (sameBytes s (bytes "activate")) (line.Old old.Activate)
+    (cond (sameBytes s (bytes "revert")) (line.Old old.Revert)
+    (cond (sameBytes s (bytes "rollback")) (line.Old old.Rollback)
+    line.Unknown)))
+
+-- "`old cancel ID`"; "`old cancel` without id and any word more are `unknown`"
+unfoldable pub oldCancelLine : List ℕ → ℕ → ScriptLine
+oldCancelLine s at = andThen line.Unknown (lastNumber s at numberMost) λ id end. line.Old (old.Cancel id)
+
+-- the words from a position on
+unfoldable pub oldLine : List ℕ → ℕ → ScriptLine
+oldLine s at = cond (sameBytes (wordAt s at) (bytes "cancel")) (oldCancelLine s (behindWord s at)) (oldFixedLine (drop at s))
+
 -- ---- a line
 
 -- a line of one number, or of fixed words, whose first word ends at a position
@@ -112,7 +132,8 @@ commandLine s at w next =
     cond (sameBytes w (bytes "load")) (loadLine s next)
     (cond (sameBytes w (bytes "data")) (dataLine s next)
     (cond (sameBytes w (bytes "poke")) (pokeLine s next)
-    (shortLine s at w next)))
+    (cond (sameBytes w (bytes "old")) (oldLine s next)
+    (shortLine s at w next))))
 
 -- the line at a position of a text, up to its end: "a line that is none of the above .. `unknown`"
 unfoldable pub scriptLineAt : List ℕ → ℕ → ScriptLine

@@ -4,5 +4,6 @@ pub mod gathered;
 pub mod limits;
 pub mod line;
 mod numbered;
+mod old;
 pub mod place;
 mod words;

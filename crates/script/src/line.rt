@@ -7,12 +7,14 @@ use crate::fixed::session_line;
 use crate::limits::NUMBER_MOST;
 use crate::limits::STORE_MOST;
 use crate::numbered::transfer_line;
+use crate::old::old_line;
 use crate::place::BlockRead;
 use crate::place::Place;
 use crate::place::last_block;
 use crate::words::last_number;
 use crate::words::number_word;
 use crate::words::word_end;
+use four_state::call::OldCall;
 use request::Request;
 use text::cursor::Cursor;
 use text::number::Number;
@@ -24,6 +26,9 @@ pub enum ScriptLine {
     Data { id: u32, counter: u32, block: Place },
     // a call of the twelve but TransferData
     Call(Request),
+    // one of the four old calls
+    Old(OldCall),
+    OldStatus,
     Packages { room: u32 },
     Clusters { room: u32 },
     Changes { room: u32 },
@@ -116,6 +121,9 @@ fn command_line(s: &[u8], from: usize, word: &[u8], next: Cursor) -> ScriptLine
     }
     if is_word(word, b"poke") {
         return read_poke_line(s, next);
+    }
+    if is_word(word, b"old") {
+        return old_line(s, next);
     }
     short_line(s, from, word, next)
 }

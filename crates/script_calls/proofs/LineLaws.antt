@@ -1,28 +1,33 @@
 -- What each line gives, from what the functions that it calls promise: r is what a line gives back, x what a call left of the bytes that
 -- were lent to it. Assumes nothing.
 use Prim.Native.Nat.{ℕ, _+_, _-_, _≤_, _<_}
-use mathlib.Core.Path.{_≡_, refl, ap, _∙_}
+use mathlib.Core.Path.{_≡_, refl, sym, ap, _∙_}
 use mathlib.Core.Bool.{Bool, true, false}
 use mathlib.Core.List.{List, _++_}
 use native.Mathlib.Omega.{arith}
-use lib.ListN.{length, take, drop}
+use lib.ListN.{length, take, drop, take-append-drop}
 use borrow.Author.Tests.{lt-ltb, le-ltb, le-leb, lt-leb}
 use Rattle.text.specs.Put.{Put}
 use Rattle.model.specs.State.{Store}
 use Rattle.model.specs.Calls.{Call, transferData}
+use Rattle.model.specs.Layers.{EventOutcome}
+use Rattle.state.specs.declared.state.State.{State}
 use Rattle.state.specs.declared.answer.Answer.{Answer}
 use Rattle.state.specs.declared.answer.Answer.the-variants.{Done}
 use Rattle.state.specs.declared.answer.Answered.{Answered}
 use Rattle.state.specs.Outcome.{Outcome, outcome}
 use Rattle.load.specs.Exact.{load}
 use Rattle.manager.specs.Accepts.{exactStep}
+use Rattle.four_state.specs.declared.answer.OldAnswered.{OldAnswered}
+use Rattle.four_state.specs.declared.call.OldCall.{OldCall}
+use Rattle.four_state.specs.Exact.{oldOutcome, exactOldStep}
 use Rattle.script_bytes.specs.Block.{blockBytes}
 use Rattle.script_calls.specs.declared.kept.Kept.{Kept}
 use Rattle.script_calls.specs.declared.kept.LineAnswer.{LineAnswer}
 use Rattle.script_calls.specs.declared.kept.LineAnswer.the-variants as line-answer
 use Rattle.script_calls.specs.declared.kept.Played.{Played}
-use Rattle.script_calls.specs.Kept.{nothingChanged, answeredWith, LineOutcome, lineOutcome}
-use Rattle.script_calls.specs.Line.{lentCount, calling, lengthAfter, loading, Poked, pokeAnswer, poking}
+use Rattle.script_calls.specs.Kept.{nothingChanged, answeredWith, oldAnsweredWith, LineOutcome, lineOutcome}
+use Rattle.script_calls.specs.Line.{lentCount, calling, callingOld, lengthAfter, loading, Poked, pokeAnswer, poking}
 use Rattle.script_calls.proofs.LentLaws.{take-lent, drop-lent, block-taken}
 
 -- ---- the twelve calls
@@ -41,6 +46,24 @@ call-played call k l n made x r count same e =
     ∙ ap (behindCall asked (drop n l)) same
     ∙ ap (λ (store : Store). behindCall asked (drop n l) (exactStep (k .state) store call)) (take-lent asked l n count)
     ∙ ap (λ (rest : Store). behindCall asked rest (exactStep (k .state) (take asked l) call)) (drop-lent asked l n count)
+
+-- ---- the old calls
+
+-- what an old call gives, with the bytes behind those that are lent
+abbrev behindOldCall : ℕ → Store → EventOutcome State ℕ → LineOutcome
+behindOldCall n rest o = lineOutcome (oldAnsweredWith (o .answer) (o .state) n) (o .store ++ rest)
+
+pub old-played : (call : OldCall) (k : Kept) (l : Store) (n : ℕ) (made : OldAnswered) (r : Played)
+    → n ≡ lentCount (k .«store_length») (length l) → oldOutcome made (take n l) ≡ exactOldStep (k .state) (take n l) call
+    → r ≡ oldAnsweredWith (made .answer) (made .state) (k .«store_length») → lineOutcome r l ≡ callingOld call k l
+unfolding callingOld
+old-played call k l n made r count same e =
+    let asked = k .«store_length» in
+    ap (λ (p : Played). lineOutcome p l) e
+    ∙ ap (λ (bytes : Store). lineOutcome (oldAnsweredWith (made .answer) (made .state) asked) bytes) (sym (take-append-drop n l))
+    ∙ ap (behindOldCall asked (drop n l)) same
+    ∙ ap (λ (store : Store). behindOldCall asked (drop n l) (exactOldStep (k .state) store call)) (take-lent asked l n count)
+    ∙ ap (λ (rest : Store). behindOldCall asked rest (exactOldStep (k .state) (take asked l) call)) (drop-lent asked l n count)
 
 -- ---- Load
 

@@ -1,8 +1,10 @@
--- "Until the first accepted Load the program holds a state that is not sound, and a store of no bytes.": that it does, and that each of the
--- twelve calls is then refused by 1 and changes nothing. Assumes nothing.
+-- "Until the first accepted Load the program holds a state that is not sound, and a store of no bytes.": that it does, that each of the
+-- twelve calls is then refused by 1 and changes nothing, and what the old calls and the old status answer. Assumes nothing.
 use mathlib.Core.Path.{_≡_, refl, sym, ap, _∙_}
 use mathlib.Core.Bool.{Bool, true, false, _&&_}
 use mathlib.Core.List.{[], _++_}
+use lib.ListN.{take}
+use Rattle.base.specs.Refusals.{firstRefusal}
 use Rattle.clusters.specs.declared.table.Table.{Table}
 use Rattle.clusters.specs.Table as clusters
 use Rattle.clusters.specs.View.{viewTable}
@@ -19,10 +21,13 @@ use Rattle.state.specs.Outcome.{Outcome, refusedBy}
 use Rattle.state.proofs.Views.{view-loaded-state}
 use Rattle.state.proofs.Outcomes.{called-unsound}
 use Rattle.manager.specs.Accepts.{accepts}
+use Rattle.four_state.specs.declared.call.OldCall.{OldCall}
+use Rattle.four_state.specs.OldCalls.{statusOf, unsoundAnswer, oldAnswers}
+use Rattle.four_state.specs.Exact.{exactBegunUnless}
 use Rattle.script_calls.specs.declared.kept.Kept.{Kept}
 use Rattle.script_calls.specs.declared.kept.LineAnswer.the-variants as line-answer
-use Rattle.script_calls.specs.Kept.{NothingLoaded, keeps, nothingChanged, answeredWith, lineOutcome}
-use Rattle.script_calls.specs.Line.{calling}
+use Rattle.script_calls.specs.Kept.{NothingLoaded, keeps, nothingChanged, answeredWith, oldAnsweredWith, lineOutcome}
+use Rattle.script_calls.specs.Line.{calling, callingOld}
 
 and-false : (a : Bool) → a && false ≡ false
 and-false true = refl
@@ -54,3 +59,22 @@ refused-before-load k bytes call nothing =
     ap (λ (q : Kept). calling call q bytes) none-lent
     ∙ refused-call (k .state) bytes call (nothing .unsound)
     ∙ ap (λ (q : Kept). lineOutcome (nothingChanged (line-answer.Answer (Refused 1)) q) bytes) (sym none-lent)
+
+-- ---- "Before the first Load `old 255` for status, `old 1` for cancel, `old 2` for the others."
+
+old-unsound : (s : State) (bytes : Store) (call : OldCall) → soundFor (viewState s) 0 ≡ false
+    → callingOld call (keeps s 0) bytes ≡ lineOutcome (oldAnsweredWith (unsoundAnswer call) s 0) bytes
+unfolding callingOld exactBegunUnless oldAnswers firstRefusal
+old-unsound s bytes call u = rw u
+
+pub old-before-load : (k : Kept) (bytes : Store) (call : OldCall) → NothingLoaded k
+    → callingOld call k bytes ≡ lineOutcome (nothingChanged (line-answer.Old (unsoundAnswer call)) k) bytes
+old-before-load k bytes call nothing =
+    let none-lent : k ≡ keeps (k .state) 0 = ap (keeps (k .state)) (nothing .noBytes) in
+    ap (λ (q : Kept). callingOld call q bytes) none-lent
+    ∙ old-unsound (k .state) bytes call (nothing .unsound)
+    ∙ ap (λ (q : Kept). lineOutcome (nothingChanged (line-answer.Old (unsoundAnswer call)) q) bytes) (sym none-lent)
+
+pub status-before-load : (k : Kept) (bytes : Store) → NothingLoaded k → statusOf (viewState (k .state)) (take (k .«store_length») bytes) ≡ 255
+unfolding statusOf
+status-before-load k bytes nothing = rw (nothing .noBytes, nothing .unsound)

@@ -8,6 +8,7 @@ use Rattle.model.specs.State.{Store}
 use Rattle.model.specs.Calls.{transferData}
 use Rattle.request.specs.declared.Request.{Request}
 use Rattle.request.specs.Call.{callOf}
+use Rattle.four_state.specs.declared.call.OldCall.{OldCall}
 use Rattle.script_bytes.specs.Block.{blockBytes}
 use Rattle.script.specs.declared.line.ScriptLine.{ScriptLine}
 use Rattle.script.specs.declared.line.ScriptLine.the-variants as line
@@ -17,7 +18,7 @@ use Rattle.script.proofs.PlaceLaws.{part-most}
 use Rattle.script_calls.specs.declared.kept.Kept.{Kept}
 use Rattle.script_calls.specs.declared.kept.Played.{Played}
 use Rattle.script_calls.specs.Kept.{LineOutcome, lineOutcome}
-use Rattle.script_calls.specs.Line.{calling, loading, poking, lineGives}
+use Rattle.script_calls.specs.Line.{calling, callingOld, loading, poking, lineGives}
 
 -- a buffer that is as long as a line has room for each of its words
 pub word-room : (text : List ℕ) (p : Place) (w : List ℕ) (n : ℕ) → w ≡ partAt text p → length text ≤ n → length w ≤ n
@@ -37,6 +38,10 @@ module _ (text : List ℕ) (k : Kept) (l : Store) (x : ScriptLine) (o : LineOutc
   pub call-line : (request : Request) → x ≡ line.Call request → o ≡ calling (callOf request []) k l → o ≡ lineGives text x k l
   unfolding lineGives
   call-line request is same = same ∙ rw is
+
+  pub old-line : (call : OldCall) → x ≡ line.Old call → o ≡ callingOld call k l → o ≡ lineGives text x k l
+  unfolding lineGives
+  old-line call is same = same ∙ rw is
 
   pub poke-line : (at : ℕ) (p : Place) (w : List ℕ) → x ≡ line.Poke at p → w ≡ partAt text p → o ≡ poking at (blockBytes w) k l
       → o ≡ lineGives text x k l

@@ -28,6 +28,10 @@ nothingChanged answer k = record { answer = answer; kept = k }
 abbrev pub answeredWith : Answered → ℕ → Played
 answeredWith made n = record { answer = line-answer.Answer (made .answer); kept = keeps (made .state) n }
 
+-- the same of an old call
+abbrev pub oldAnsweredWith : ℕ → State → ℕ → Played
+oldAnsweredWith answer s n = record { answer = line-answer.Old answer; kept = keeps s n }
+
 -- what a line gives: its answer, what is kept then, and all the bytes of the program's store
 pub record LineOutcome : Type 0 where
   pub played : Played

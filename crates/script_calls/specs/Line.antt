@@ -10,9 +10,12 @@ use Rattle.model.specs.State.{Store}
 use Rattle.model.specs.Calls.{Call, transferData}
 use Rattle.request.specs.Call.{callOf}
 use Rattle.state.specs.declared.answer.Answer.{Answer}
-use Rattle.state.specs.declared.answer.Answer.the-variants.{Id, Done, Working, Processed, Cancelled, Inconsistent, PreActivationFailed, MissingDependencies, VerificationFailed, NotAbleToRollback, NotAbleToRevert, CleaningFailed, Refused}
+use Rattle.state.specs.declared.answer.Answer.the-variants.{Done}
+use Rattle.state.specs.Outcome.{isRefusal}
 use Rattle.load.specs.Exact.{load}
 use Rattle.manager.specs.Accepts.{exactStep}
+use Rattle.four_state.specs.declared.call.OldCall.{OldCall}
+use Rattle.four_state.specs.Exact.{exactOldStep}
 use Rattle.script_bytes.specs.Block.{blockBytes}
 use Rattle.script.specs.declared.line.ScriptLine.{ScriptLine}
 use Rattle.script.specs.declared.line.ScriptLine.the-variants as line
@@ -20,7 +23,7 @@ use Rattle.script.specs.Place.{partAt}
 use Rattle.script_calls.specs.declared.kept.Kept.{Kept}
 use Rattle.script_calls.specs.declared.kept.LineAnswer.{LineAnswer}
 use Rattle.script_calls.specs.declared.kept.LineAnswer.the-variants as line-answer
-use Rattle.script_calls.specs.Kept.{nothingChanged, answeredWith, LineOutcome, lineOutcome}
+use Rattle.script_calls.specs.Kept.{nothingChanged, answeredWith, oldAnsweredWith, LineOutcome, lineOutcome}
 
 -- how many bytes are lent: as many as are asked for, and at most all
 unfoldable pub lentCount : ℕ → ℕ → ℕ
@@ -33,20 +36,12 @@ calling call k bytes =
     let o = exactStep (k .state) (take n bytes) call in
     lineOutcome (answeredWith (o .answered) n) (o .store ++ drop n bytes)
 
-abbrev pub isRefusal : Answer → Bool
-isRefusal (Id id) = false
-isRefusal Done = false
-isRefusal Working = false
-isRefusal Processed = false
-isRefusal Cancelled = false
-isRefusal Inconsistent = false
-isRefusal PreActivationFailed = false
-isRefusal MissingDependencies = false
-isRefusal VerificationFailed = false
-isRefusal NotAbleToRollback = false
-isRefusal NotAbleToRevert = false
-isRefusal CleaningFailed = false
-isRefusal (Refused number) = true
+-- an old call on the bytes that are lent, which is answered "`old N`, never `refused`"
+unfoldable pub callingOld : OldCall → Kept → Store → LineOutcome
+callingOld call k bytes =
+    let n = k .«store_length» in
+    let o = exactOldStep (k .state) (take n bytes) call in
+    lineOutcome (oldAnsweredWith (o .answer) (o .state) n) (o .store ++ drop n bytes)
 
 -- "A refused Load leaves the state and the store that were there before it.": as many bytes are lent as before
 abbrev pub lengthAfter : Answer → ℕ → ℕ → ℕ
@@ -75,11 +70,14 @@ poking at text k bytes =
     let fits = leb (at + length text) (length (take n bytes)) in
     lineOutcome (nothingChanged (pokeAnswer fits) k) (cond fits (sets (take n bytes) at text) (take n bytes) ++ drop n bytes)
 
--- what a line gives, with its text: the definition of each case of `ScriptLine`. A reading call, `store` and a remark change nothing
+-- what a line gives, with its text: the definition of each case of `ScriptLine`. A reading call, the old status,
+-- `store` and a remark change nothing
 unfoldable pub lineGives : List ℕ → ScriptLine → Kept → Store → LineOutcome
 lineGives text (line.Load first size list) k bytes = loading first size (blockBytes (partAt text list)) k bytes
 lineGives text (line.Data id counter block) k bytes = calling (transferData id counter (blockBytes (partAt text block))) k bytes
 lineGives text (line.Call request) k bytes = calling (callOf request []) k bytes
+lineGives text (line.Old call) k bytes = callingOld call k bytes
+lineGives text line.OldStatus k bytes = lineOutcome (nothingChanged line-answer.Shown k) bytes
 lineGives text (line.Packages room) k bytes = lineOutcome (nothingChanged line-answer.Shown k) bytes
 lineGives text (line.Clusters room) k bytes = lineOutcome (nothingChanged line-answer.Shown k) bytes
 lineGives text (line.Changes room) k bytes = lineOutcome (nothingChanged line-answer.Shown k) bytes

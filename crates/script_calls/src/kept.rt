@@ -1,7 +1,8 @@
 // What the program keeps from line to line, beside the bytes of its store, and what a line gives.
 ghost use mathlib.Core.Path.{_≡_};
-ghost use Rattle.script_calls.specs.Kept.{NothingLoaded, answeredWith, nothingChanged};
+ghost use Rattle.script_calls.specs.Kept.{NothingLoaded, answeredWith, oldAnsweredWith, nothingChanged};
 use clusters::table::empty_table;
+use four_state::answer::OldAnswered;
 use state::answer::Answer;
 use state::answer::Answered;
 use state::state::State;
@@ -13,9 +14,10 @@ pub struct Kept {
     pub store_length: usize,
 }
 
-// The answer of a call; `unknown`; or that the line changes nothing and is answered by what it shows.
+// The answer of a call; that of an old call; `unknown`; or that the line changes nothing and is answered by what it shows.
 pub enum LineAnswer {
     Answer(Answer),
+    Old(u8),
     Unknown,
     Shown,
 }
@@ -49,6 +51,22 @@ pub fn answered_with(made: Answered, store_length: usize) -> Played
     };
     Played {
         answer: LineAnswer::Answer(answer),
+        kept: kept,
+    }
+}
+
+// The same of an old call.
+pub fn old_answered_with(made: OldAnswered, store_length: usize) -> Played
+    ensures { λ r. ⌜ r ≡ oldAnsweredWith (made .answer) (made .state) «store_length» ⌝ }
+{
+    let answer = made.answer;
+    let state = made.state;
+    let kept = Kept {
+        state: state,
+        store_length: store_length,
+    };
+    Played {
+        answer: LineAnswer::Old(answer),
         kept: kept,
     }
 }

@@ -3,5 +3,6 @@ mod call;
 pub mod kept;
 pub mod lent;
 mod load_list;
+mod old;
 pub mod play;
 mod poke;

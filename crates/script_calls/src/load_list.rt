@@ -4,7 +4,7 @@ ghost use Prim.Native.Nat.{_≤_};
 ghost use lib.ListN.{length};
 ghost use Rattle.script_bytes.specs.Block.{blockBytes};
 ghost use Rattle.script_calls.specs.Kept.{lineOutcome};
-ghost use Rattle.script_calls.specs.Line.{isRefusal, lengthAfter, loading};
+ghost use Rattle.script_calls.specs.Line.{lengthAfter, loading};
 use crate::kept::Kept;
 use crate::kept::LineAnswer;
 use crate::kept::Played;
@@ -12,27 +12,7 @@ use crate::kept::answered_with;
 use crate::kept::nothing_changed;
 use script_bytes::block::put_block_bytes;
 use state::answer::Answer;
-
-// Whether an answer is a refusal.
-fn is_refusal(answer: Answer) -> bool
-    ensures { λ r. ⌜ r ≡ isRefusal answer ⌝ }
-{
-    match answer {
-        Answer::Id(_) => false,
-        Answer::Done => false,
-        Answer::Working => false,
-        Answer::Processed => false,
-        Answer::Cancelled => false,
-        Answer::Inconsistent => false,
-        Answer::PreActivationFailed => false,
-        Answer::MissingDependencies => false,
-        Answer::VerificationFailed => false,
-        Answer::NotAbleToRollback => false,
-        Answer::NotAbleToRevert => false,
-        Answer::CleaningFailed => false,
-        Answer::Refused(_) => true,
-    }
-}
+use state::answer::is_refusal;
 
 // How many bytes are lent after Load: as many as the line says, or as before.
 fn length_after(answer: Answer, before: usize, size: usize) -> usize

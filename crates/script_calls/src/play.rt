@@ -11,6 +11,7 @@ use crate::kept::LineAnswer;
 use crate::kept::Played;
 use crate::kept::nothing_changed;
 use crate::load_list::play_load;
+use crate::old::play_old;
 use crate::poke::play_poke;
 use script::line::ScriptLine;
 use script::place::part_at;
@@ -44,6 +45,8 @@ pub fn play(
             buffer,
         ),
         ScriptLine::Call(request) => play_call(kept, bytes, request, &buffer[..0]),
+        ScriptLine::Old(call) => play_old(kept, bytes, call),
+        ScriptLine::OldStatus => nothing_changed(LineAnswer::Shown, kept),
         ScriptLine::Packages { room: _ } => nothing_changed(LineAnswer::Shown, kept),
         ScriptLine::Clusters { room: _ } => nothing_changed(LineAnswer::Shown, kept),
         ScriptLine::Changes { room: _ } => nothing_changed(LineAnswer::Shown, kept),

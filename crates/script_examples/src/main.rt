@@ -1,5 +1,6 @@
 // Exercises the lines of `replay`: the file stdin beside src/ goes through every line of the table, the refusals and their neighbours,
-// whole sessions and damaged packages, and the file stdout is what an independent reading of document 01 answers.
+// every state with the old calls, whole sessions and damaged packages, and the file stdout is what an independent reading of document 01
+// and of the table of the old calls answers.
 fn main() {
     replay_bench::play_standard_input();
 }

@@ -10,6 +10,18 @@ enum-known-answer c = search needs
 show-answer-requires : tie.Need-show-answer-requires
 show-answer-requires c κs = search needs
 
+enum-known-answer-2 : tie.Need-enum-known-answer-2
+enum-known-answer-2 c = search needs
+
+slice-aggregate-show-number : tie.Need-slice-aggregate-show-number
+slice-aggregate-show-number c = search needs
+
+cast-show-number : tie.Need-cast-show-number
+cast-show-number c = search needs
+
+show-number-requires : tie.Need-show-number-requires
+show-number-requires c κs = search needs
+
 enum-told : tie.Need-enum-told
 enum-told c = search needs
 
@@ -34,11 +46,14 @@ returns c = search needs
 returns-2 : tie.Need-returns-2
 returns-2 c = search needs
 
+returns-3 : tie.Need-returns-3
+returns-3 c = search needs
+
 same-length : tie.Need-same-length
 same-length c = search needs
 
-returns-3 : tie.Need-returns-3
-returns-3 c = search needs
+returns-4 : tie.Need-returns-4
+returns-4 c = search needs
 
 pub show-line-answer-spec : {M : Type 1} → statement M
 show-line-answer-spec =
@@ -46,6 +61,10 @@ show-line-answer-spec =
     (tie.spec
     enum-known-answer
     show-answer-requires
+    enum-known-answer-2
+    slice-aggregate-show-number
+    cast-show-number
+    show-number-requires
     enum-told
     show-unknown-requires
     enum-told-2
@@ -54,5 +73,6 @@ show-line-answer-spec =
     show-reading-requires
     returns
     returns-2
+    returns-3
     same-length
-    returns-3)
+    returns-4)

@@ -44,12 +44,25 @@ returns-3 : tie.Need-returns-3
 unfolding commandLine
 returns-3 c = search told-ladder depth 9
 
-short-line-requires : tie.Need-short-line-requires
-short-line-requires c κs = search needs
+slice-aggregate-is-word-4 : tie.Need-slice-aggregate-is-word-4
+slice-aggregate-is-word-4 c = search needs
+
+is-word-requires-4 : tie.Need-is-word-requires-4
+is-word-requires-4 c κs = search needs
+
+old-line-requires : tie.Need-old-line-requires
+old-line-requires c κs = search needs
 
 returns-4 : tie.Need-returns-4
 unfolding commandLine
 returns-4 c = search told-ladder depth 9
+
+short-line-requires : tie.Need-short-line-requires
+short-line-requires c κs = search needs
+
+returns-5 : tie.Need-returns-5
+unfolding commandLine
+returns-5 c = search told-ladder depth 9
 
 pub command-line-spec : {M : Type 1} → statement M
 command-line-spec =
@@ -67,5 +80,9 @@ command-line-spec =
     is-word-requires-3
     read-poke-line-requires
     returns-3
+    slice-aggregate-is-word-4
+    is-word-requires-4
+    old-line-requires
+    returns-4
     short-line-requires
-    returns-4)
+    returns-5)

@@ -2,7 +2,7 @@
 -- Assumes nothing.
 use borrow.Author.Needs.{needs}
 use Rattle.script_calls.specs.Line.{lineGives}
-use Rattle.script_calls.proofs.PlayLaws.{word-room, load-line, data-line, call-line, poke-line, other-line, same-played}
+use Rattle.script_calls.proofs.PlayLaws.{word-room, load-line, data-line, call-line, old-line, poke-line, other-line, same-played}
 use Rattle.script_calls.proofs.play.play.Statement.{statement}
 use Rattle.script_calls.proofs.play.play.Tie as tie
 
@@ -35,6 +35,12 @@ slice-aggregate-play-call c = search needs
 
 play-call-requires : tie.Need-play-call-requires
 play-call-requires c κs = search needs
+
+enum-known-line-4 : tie.Need-enum-known-line-4
+enum-known-line-4 c = search needs
+
+play-old-requires : tie.Need-play-old-requires
+play-old-requires c κs = search needs
 
 enum-told : tie.Need-enum-told
 enum-told c = search needs
@@ -78,8 +84,14 @@ enum-told-7 c = search needs
 nothing-changed-requires-7 : tie.Need-nothing-changed-requires-7
 nothing-changed-requires-7 c κs = search needs
 
-enum-known-line-4 : tie.Need-enum-known-line-4
-enum-known-line-4 c = search needs
+enum-told-8 : tie.Need-enum-told-8
+enum-told-8 c = search needs
+
+nothing-changed-requires-8 : tie.Need-nothing-changed-requires-8
+nothing-changed-requires-8 c κs = search needs
+
+enum-known-line-5 : tie.Need-enum-known-line-5
+enum-known-line-5 c = search needs
 
 part-at-requires-3 : tie.Need-part-at-requires-3
 part-at-requires-3 c κs = search needs
@@ -87,17 +99,17 @@ part-at-requires-3 c κs = search needs
 play-poke-requires : tie.Need-play-poke-requires
 play-poke-requires c κs = search needs
 
-enum-told-8 : tie.Need-enum-told-8
-enum-told-8 c = search needs
-
-nothing-changed-requires-8 : tie.Need-nothing-changed-requires-8
-nothing-changed-requires-8 c κs = search needs
-
 enum-told-9 : tie.Need-enum-told-9
 enum-told-9 c = search needs
 
 nothing-changed-requires-9 : tie.Need-nothing-changed-requires-9
 nothing-changed-requires-9 c κs = search needs
+
+enum-told-10 : tie.Need-enum-told-10
+enum-told-10 c = search needs
+
+nothing-changed-requires-10 : tie.Need-nothing-changed-requires-10
+nothing-changed-requires-10 c κs = search needs
 
 same-length : tie.Need-same-length
 same-length c = search needs
@@ -126,9 +138,11 @@ same-length-6 c = search needs
 returns-3 : tie.Need-returns-3
 returns-3 c = search call-line
 
+same-length-7 : tie.Need-same-length-7
+same-length-7 c = search needs
+
 returns-4 : tie.Need-returns-4
-unfolding lineGives
-returns-4 c = search (other-line, same-played)
+returns-4 c = search old-line
 
 returns-5 : tie.Need-returns-5
 unfolding lineGives
@@ -154,19 +168,27 @@ returns-10 : tie.Need-returns-10
 unfolding lineGives
 returns-10 c = search (other-line, same-played)
 
-same-length-7 : tie.Need-same-length-7
-same-length-7 c = search needs
-
 returns-11 : tie.Need-returns-11
-returns-11 c = search poke-line
+unfolding lineGives
+returns-11 c = search (other-line, same-played)
 
 returns-12 : tie.Need-returns-12
 unfolding lineGives
 returns-12 c = search (other-line, same-played)
 
+same-length-8 : tie.Need-same-length-8
+same-length-8 c = search needs
+
 returns-13 : tie.Need-returns-13
+returns-13 c = search poke-line
+
+returns-14 : tie.Need-returns-14
 unfolding lineGives
-returns-13 c = search (other-line, same-played)
+returns-14 c = search (other-line, same-played)
+
+returns-15 : tie.Need-returns-15
+unfolding lineGives
+returns-15 c = search (other-line, same-played)
 
 pub play-spec : {M : Type 1} → statement M
 play-spec =
@@ -182,6 +204,8 @@ play-spec =
     slice-reshare-prefix-play-call
     slice-aggregate-play-call
     play-call-requires
+    enum-known-line-4
+    play-old-requires
     enum-told
     nothing-changed-requires
     enum-told-2
@@ -196,13 +220,15 @@ play-spec =
     nothing-changed-requires-6
     enum-told-7
     nothing-changed-requires-7
-    enum-known-line-4
-    part-at-requires-3
-    play-poke-requires
     enum-told-8
     nothing-changed-requires-8
+    enum-known-line-5
+    part-at-requires-3
+    play-poke-requires
     enum-told-9
     nothing-changed-requires-9
+    enum-told-10
+    nothing-changed-requires-10
     same-length
     same-length-2
     returns
@@ -212,6 +238,7 @@ play-spec =
     same-length-5
     same-length-6
     returns-3
+    same-length-7
     returns-4
     returns-5
     returns-6
@@ -219,7 +246,9 @@ play-spec =
     returns-8
     returns-9
     returns-10
-    same-length-7
     returns-11
     returns-12
-    returns-13)
+    same-length-8
+    returns-13
+    returns-14
+    returns-15)

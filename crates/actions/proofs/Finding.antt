@@ -7,7 +7,7 @@ use Prim.Native.Nat.{ℕ}
 use lib.Dec.{ltb, eqb}
 use borrow.Author.Tests.{eqb-true, eq-eqb}
 use Rattle.base.proofs.Tests.{bool-cases, none-some}
-use Rattle.clusters.specs.Cluster.{Cluster}
+use Rattle.clusters.specs.Cluster.{Cluster, withMark}
 use Rattle.clusters.specs.Table.{Table, find}
 use Rattle.actions.specs.Action.{insert, replace, takeOut}
 
@@ -53,12 +53,18 @@ insert-same c (d ∷ t) e =
     bool-cases (ltb (c .part) (d .part)) (λ l. rw l (rw (eqb-same (c .part))))
     λ l. rw l (bool-cases (eqb (c .part) (d .part)) (λ z. none-some (sym (rw z at e))) λ z. rw z (ih (rw z at e)))
 
-pub replace-same : (c old : Cluster) (t : Table) → find (c .part) t ≡ some old → find (c .part) (replace c t) ≡ some c
+the-one : (d old : Cluster) → some d ≡ some old → d ≡ old
+the-one d old e = cc
+
+-- it keeps the mark of the one that stood there
+pub replace-same : (c old : Cluster) (t : Table) → find (c .part) t ≡ some old → find (c .part) (replace c t) ≡ some (withMark c (old .stays))
 unfolding find replace
 replace-same c old [] e = none-some e
 replace-same c old (d ∷ t) e =
-    let ih : find (c .part) t ≡ some old → find (c .part) (replace c t) ≡ some c = replace-same c old t in
-    bool-cases (eqb (c .part) (d .part)) (λ z. rw z (rw (eqb-same (c .part)))) λ z. rw (z, z) (ih (rw z at e))
+    let ih : find (c .part) t ≡ some old → find (c .part) (replace c t) ≡ some (withMark c (old .stays)) = replace-same c old t in
+    bool-cases (eqb (c .part) (d .part))
+    (λ z. let there : some d ≡ some old = rw z at e in rw z (rw (eqb-same (c .part)) (ap (λ (x : Cluster). some (withMark c (x .stays))) (the-one d old there))))
+    λ z. rw (z, z) (ih (rw z at e))
 
 pub take-out-same : (part : ℕ) (t : Table) → find part (takeOut part t) ≡ none
 unfolding find takeOut

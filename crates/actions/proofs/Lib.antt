@@ -2,6 +2,7 @@ pub mod Arrays
 pub mod StagedLaws
 pub mod Finding
 pub mod Changes
+pub mod Marks
 pub mod Limits
 pub mod InTurn
 pub mod Placing

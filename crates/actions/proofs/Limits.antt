@@ -1,6 +1,6 @@
--- Actions within the limits that pass 11 to 15 in turn keep a table within its limits and rising. Assumes nothing.
+-- Actions within the limits that pass 11 to 15 and 21 in turn keep a table within its limits and rising. Assumes nothing.
 use mathlib.Core.Path.{_≡_, refl, sym, ap, subst}
-use mathlib.Core.Bool.{true, false}
+use mathlib.Core.Bool.{Bool, true, false}
 use mathlib.Core.List.{List, [], _∷_, _++_}
 use mathlib.Core.Option.{none}
 use Prim.Native.Nat.{ℕ, suc, _≤_, _<_}
@@ -9,7 +9,7 @@ use lib.Dec.{leb, ltb, eqb}
 use lib.ListN.{length}
 use borrow.Author.Tests.{ltb-true, ltb-false, leb-true, leb-false, eqb-true, eqb-false}
 use Rattle.base.proofs.Tests.{and-left, and-right, bool-cases, none-some}
-use Rattle.clusters.specs.Cluster.{Cluster, partWithin, clusterWithin}
+use Rattle.clusters.specs.Cluster.{Cluster, withMark, partWithin, clusterWithin}
 use Rattle.clusters.specs.Table.{Table, find, risingAbove, tableWithin, clustersMost}
 use Rattle.clusters.proofs.Limits.{rising-says, rising-is, few-clusters, rising-clusters, table-is-within}
 use Rattle.actions.specs.Action.{Action, install, update, remove, actionPart, insert, replace, takeOut, apply, applyAll, actionWithin, actionsWithin}
@@ -20,6 +20,11 @@ use Rattle.actions.proofs.Changes.{passes-says}
 part-at-least-one : (c : Cluster) → clusterWithin c ≡ true → 0 < c .part
 unfolding clusterWithin partWithin
 part-at-least-one c h = omega (arith, leb-true 1 (c .part) (and-left _ (leb (c .part) 4294967295) (and-left (partWithin (c .part)) _ h)))
+
+-- the mark has no limit
+marked-within : (c : Cluster) (mark : Bool) → clusterWithin c ≡ true → clusterWithin (withMark c mark) ≡ true
+unfolding clusterWithin
+marked-within c mark h = h
 
 rising-from : (last higher : ℕ) (t : Table) → last ≤ higher → risingAbove higher t ≡ true → risingAbove last t ≡ true
 rising-from last higher [] l h = unfold risingAbove in refl
@@ -50,7 +55,7 @@ module _ (c : Cluster) (fine : clusterWithin c ≡ true) where
       let ih = rising-replace (d .part) t (r .rest) in
       bool-cases (eqb (c .part) (d .part))
       (λ z. let same : c .part ≡ d .part = eqb-true _ _ z in
-      rw z (rising-is last c (replace c t) (record { over = omega (arith, r .over); within = fine; rest = subst (λ (y : ℕ). risingAbove y (replace c t) ≡ true) (sym same) ih })))
+      rw z (rising-is last (withMark c (d .stays)) (replace c t) (record { over = omega (arith, r .over); within = marked-within c (d .stays) fine; rest = subst (λ (y : ℕ). risingAbove y (replace c t) ≡ true) (sym same) ih })))
       λ z. rw z (rising-is last d (replace c t) (record { over = r .over; within = r .within; rest = ih }))
 
 rising-take-out : (part last : ℕ) (t : Table) → risingAbove last t ≡ true → risingAbove last (takeOut part t) ≡ true
@@ -83,14 +88,15 @@ applied : (a : Action) (t : Table) → actionWithin a ≡ true → clusterPresen
     → tableWithin t ≡ true → tableWithin (apply a t) ≡ true
 unfolding actionWithin clusterPresent tableFull apply
 applied (install c) t fine h12 h15 h =
-    table-is-within (insert c t) (rw (length-insert c t) (omega (arith, leb-false clustersMost (length t) h15)))
-    (rising-insert c fine 0 t (part-at-least-one c fine) (not-staged (find (c .part) t) h12) (rising-clusters t h))
+    let new = withMark c false in
+    table-is-within (insert new t) (rw (length-insert new t) (omega (arith, leb-false clustersMost (length t) h15)))
+    (rising-insert new (marked-within c false fine) 0 t (part-at-least-one c fine) (not-staged (find (c .part) t) h12) (rising-clusters t h))
 applied (update c) t fine h12 h15 h =
     table-is-within (replace c t) (rw (length-replace c t) (few-clusters t h)) (rising-replace c fine 0 t (rising-clusters t h))
 applied (remove part) t fine h12 h15 h =
     table-is-within (takeOut part t) (omega (arith, length-take-out part t, few-clusters t h)) (rising-take-out part 0 t (rising-clusters t h))
 
--- an action within the limits that passes 11 to 15 keeps a table within its limits
+-- an action within the limits that passes 11 to 15 and 21 keeps a table within its limits
 pub apply-within : (t : Table) (listed : List Action) (a : Action) → tableWithin t ≡ true → actionWithin a ≡ true → passes t listed a ≡ true → tableWithin (apply a t) ≡ true
 apply-within t listed a h fine p =
     let q = passes-says t listed a p in

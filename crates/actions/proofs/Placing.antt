@@ -8,13 +8,13 @@ use mathlib.Core.Option.{none}
 use native.Mathlib.Numerals.{add-one}
 use native.Mathlib.Omega.{arith}
 use lib.Dec.{eqb, ltb}
-use lib.ListN.{length, take, drop}
+use lib.ListN.{length, take, drop, getD}
 use borrow.Author.Tests.{eqb-true}
 use Rattle.base.proofs.Tests.{bool-cases, none-some}
 use Rattle.clusters.specs.declared.cluster.Cluster.{Cluster as ClusterStruct}
 use Rattle.place_in_list.specs.declared.Found.the-variants.{At}
 use Rattle.place_in_list.proofs.Placed.{holds-at-place}
-use Rattle.clusters.specs.Cluster.{Cluster}
+use Rattle.clusters.specs.Cluster.{Cluster, withMark}
 use Rattle.clusters.specs.Table.{Table, find, risingAbove}
 use Rattle.clusters.specs.View.{viewCluster}
 use Rattle.clusters.specs.Place.{hasPart, placeOf}
@@ -42,9 +42,9 @@ take-out-absent part (d ∷ t) e =
 
 -- ---- the place that is found
 
--- in a rising table the cluster with the part number stands at i and only there
+-- in a rising table the cluster with the part number stands at i and only there; one in its place keeps its mark
 pub record ChangedAt (part : ℕ) (t : Table) (i : ℕ) : Type 0 where
-  pub replaced : (last : ℕ) → risingAbove last t ≡ true → (c : Cluster) → c .part ≡ part → replace c t ≡ putAt i c t
+  pub replaced : (last : ℕ) → risingAbove last t ≡ true → (c d : Cluster) → c .part ≡ part → replace c t ≡ putAt i (withMark c (getD t i d .stays)) t
   pub taken-out : (last : ℕ) → risingAbove last t ≡ true → takeOut part t ≡ take i t ++ drop (i + 1) t
 
 changed-first : (part : ℕ) (x : Cluster) (t : Table) → eqb part (x .part) ≡ true → ChangedAt part (x ∷ t) 0
@@ -52,7 +52,7 @@ unfolding replace takeOut
 changed-first part x t z =
     let low : (last : ℕ) → risingAbove last (x ∷ t) ≡ true → find part t ≡ none = λ last h. find-low part (x .part) t (omega (arith, eqb-true part (x .part) z)) (rising-says last x t h .rest) in
     record {
-      replaced = λ last h c e. let y : eqb (c .part) (x .part) ≡ true = rw e z in rw y (ap (λ (l : Table). c ∷ l) (replace-absent c t (rw e (low last h))));
+      replaced = λ last h c d e. let y : eqb (c .part) (x .part) ≡ true = rw e z in rw y (ap (λ (l : Table). withMark c (x .stays) ∷ l) (replace-absent c t (rw e (low last h))));
       taken-out = λ last h. rw z (take-out-absent part t (low last h));
     }
 
@@ -62,7 +62,7 @@ drop-one-more i x t = rw (add-one (suc i), add-one i)
 changed-further : (part : ℕ) (x : Cluster) (t : Table) (i : ℕ) → eqb part (x .part) ≡ false → ChangedAt part t i → ChangedAt part (x ∷ t) (suc i)
 unfolding replace takeOut
 changed-further part x t i z p = record {
-  replaced = λ last h c e. let y : eqb (c .part) (x .part) ≡ false = rw e z in rw (y, drop-one-more i x t) (ap (λ (l : Table). x ∷ l) (p .replaced (x .part) (rising-says last x t h .rest) c e));
+  replaced = λ last h c d e. let y : eqb (c .part) (x .part) ≡ false = rw e z in rw (y, drop-one-more i x t) (ap (λ (l : Table). x ∷ l) (p .replaced (x .part) (rising-says last x t h .rest) c d e));
   taken-out = λ last h. rw (z, drop-one-more i x t) (ap (λ (l : Table). x ∷ l) (p .taken-out (x .part) (rising-says last x t h .rest)));
 }
 

@@ -1,7 +1,7 @@
 -- What is looked at of the cluster that is staged under a part number, and what it stands for. Assumes nothing.
 use Prim.Native.Nat.{ℕ}
 use mathlib.Core.Path.{_≡_, refl, sym, ap, _∙_}
-use mathlib.Core.Bool.{true, false, not, true≢false, false≢true}
+use mathlib.Core.Bool.{Bool, true, false, not, true≢false, false≢true}
 use mathlib.Core.List.{List}
 use mathlib.Core.Option.{Option, none, some}
 use native.Mathlib.Omega.{arith}
@@ -15,8 +15,8 @@ use Rattle.clusters.specs.Table.{Table, find}
 use Rattle.actions.specs.declared.action.Change.{Change}
 use Rattle.actions.specs.declared.action.Change.the-variants.{Install, Update, Remove}
 use Rattle.actions.specs.declared.refusals.Staged.the-variants.{At, Nothing}
-use Rattle.actions.specs.Action.{Action, update, actionPart}
-use Rattle.actions.specs.Refusals.{touched, isStaged, oldVersion, stagedRefusals, actionRefusals, actionRefusal}
+use Rattle.actions.specs.Action.{Action, update, remove, actionPart}
+use Rattle.actions.specs.Refusals.{touched, isStaged, clusterStays, oldVersion, stagedRefusals, actionRefusals, actionRefusal}
 use Rattle.actions.specs.Staged.{stagedAs}
 use Rattle.actions.specs.View.{actionOf}
 
@@ -28,10 +28,10 @@ pub staged-is : (staged : Option Cluster) → isStaged staged ≡ true → (d : 
 staged-is none e = absurd (false≢true e)
 staged-is (some d) e = (d, refl)
 
--- a version stands for a staged cluster, which has it
-pub staged-at : (staged : Option Cluster) (v : Version) → At v ≡ stagedAs staged → true ≡ isStaged staged
-staged-at none v e = let z : _≡_ {A = ℕ} 0 1 = cc in absurd (omega arith)
-staged-at (some d) v e = refl
+-- a version and a mark stand for a staged cluster, which has them
+pub staged-at : (staged : Option Cluster) (v : Version) (mark : Bool) → At v mark ≡ stagedAs staged → true ≡ isStaged staged
+staged-at none v mark e = let z : _≡_ {A = ℕ} 0 1 = cc in absurd (omega arith)
+staged-at (some d) v mark e = refl
 
 pub staged-nothing : (staged : Option Cluster) → Nothing ≡ stagedAs staged → false ≡ isStaged staged
 staged-nothing none e = refl
@@ -47,6 +47,22 @@ part-of Remove c = refl
 pub by-change : {A : Type 0} (f : Action → A) (change known : Change) (c : Cluster) (x : A) → change ≡ known → x ≡ f (actionOf known c) → x ≡ f (actionOf change c)
 by-change f change known c x e q = q ∙ ap (λ (k : Change). f (actionOf k c)) (sym e)
 
+-- ---- 21
+
+pub stays-nothing : (staged : Option Cluster) (c : Cluster) (change : Change) → Nothing ≡ stagedAs staged
+    → false ≡ clusterStays staged (actionOf change c)
+unfolding clusterStays
+stays-nothing none c Install e = refl
+stays-nothing none c Update e = refl
+stays-nothing none c Remove e = refl
+stays-nothing (some d) c change e = let z : _≡_ {A = ℕ} 0 1 = cc in absurd (omega arith)
+
+pub stays-remove : (staged : Option Cluster) (part : ℕ) (v : Version) (mark : Bool) → At v mark ≡ stagedAs staged
+    → mark ≡ clusterStays staged (remove part)
+unfolding clusterStays
+stays-remove none part v mark e = let z : _≡_ {A = ℕ} 0 1 = cc in absurd (omega arith)
+stays-remove (some d) part v mark e = cc
+
 -- ---- 14
 
 pub old-nothing : (staged : Option Cluster) (c : Cluster) (change : Change) → Nothing ≡ stagedAs staged → false ≡ oldVersion staged (actionOf change c)
@@ -56,13 +72,13 @@ old-nothing none c Update e = refl
 old-nothing none c Remove e = refl
 old-nothing (some d) c change e = let z : _≡_ {A = ℕ} 0 1 = cc in absurd (omega arith)
 
-pub old-update : (staged : Option Cluster) (c : Cluster) (version v : Version) → version ≡ c .version → At v ≡ stagedAs staged
+pub old-update : (staged : Option Cluster) (c : Cluster) (version v : Version) (mark : Bool) → version ≡ c .version → At v mark ≡ stagedAs staged
     → not (above version v) ≡ oldVersion staged (update c)
 unfolding oldVersion
-old-update none c version v same e = let z : _≡_ {A = ℕ} 0 1 = cc in absurd (omega arith)
-old-update (some d) c version v same e = let old : v ≡ d .version = cc in rw (same, old)
+old-update none c version v mark same e = let z : _≡_ {A = ℕ} 0 1 = cc in absurd (omega arith)
+old-update (some d) c version v mark same e = let old : v ≡ d .version = cc in rw (same, old)
 
--- ---- 11 to 15
+-- ---- 11 to 15 and 21
 
 module _ (t : Table) (listed : List Action) (a : Action) where
   -- past 11, by what the table has under the part number and by the number of its clusters

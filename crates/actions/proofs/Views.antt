@@ -5,7 +5,8 @@ use mathlib.Core.Bool.{true, false}
 use mathlib.Core.List.{List, map, map-append}
 use native.Mathlib.Omega.{arith}
 use lib.Dec.{leb}
-use lib.ListN.{length, take, drop, length-map, length-take}
+use lib.ListN.{length, take, drop, getD, length-map, length-take, List·getD-map}
+use lib.Seq.{getD-take}
 use borrow.Author.Tests.{le-leb, leb-true, leb-false, lt-leb}
 use Rattle.base.proofs.Tests.{bool-cases, cond-true}
 use Rattle.base.proofs.Counted.{counted-few}
@@ -16,11 +17,13 @@ use Rattle.place_in_list.specs.declared.Found.the-variants.{At, Nothing}
 use Rattle.clusters.specs.Table.{tableWithin, clustersMost}
 use Rattle.clusters.specs.View.{noCluster, viewCluster, viewTable}
 use Rattle.clusters.specs.Place.{placeOf}
+use Rattle.clusters.specs.Cluster.{Cluster, withMark}
 use Rattle.clusters.specs.Exact.{putAt}
+use Rattle.clusters.specs.Exact as clusters
 use Rattle.clusters.proofs.Limits.{rising-clusters}
 use Rattle.clusters.proofs.Along.{view-few, table-length}
 use Rattle.clusters.proofs.Placing.{Placed, place-says, nothing-found}
-use Rattle.clusters.proofs.Views.{few-of-within}
+use Rattle.clusters.proofs.Views.{few-of-within, view-with-mark}
 use Rattle.actions.specs.declared.action.Change.{Change}
 use Rattle.actions.specs.declared.action.Change.the-variants.{Install, Update, Remove}
 use Rattle.actions.specs.declared.action.Action.{Action as ActionStruct}
@@ -59,6 +62,13 @@ place-below part t i few e =
     let m = length-take (t .count) (t .clusters) in
     (omega arith, omega arith)
 
+-- the mark there, in the first clusters
+mark-seen : (t : TableStruct) (i : ℕ) → i < t .count
+    → getD (t .clusters) i noCluster .stays ≡ getD (map viewCluster (take (t .count) (t .clusters))) i (viewCluster noCluster) .stays
+mark-seen t i l =
+    let seen = take (t .count) (t .clusters) in
+    sym (ap (λ (d : Cluster). d .stays) (List·getD-map viewCluster seen i noCluster ∙ ap viewCluster (getD-take (t .count) (t .clusters) i noCluster l)))
+
 pub view-replace : (c : ClusterStruct) (t : TableStruct) → tableWithin (viewTable t) ≡ true → viewTable (exact.replace c t) ≡ replace (viewCluster c) (viewTable t)
 unfolding exact.replace
 view-replace c t h = go (placeOf (c .part) (viewTable t)) refl
@@ -72,9 +82,13 @@ view-replace c t h = go (placeOf (c .part) (viewTable t)) refl
     at : (i : ℕ) → placeOf (c .part) (viewTable t) ≡ At i → viewTable (exact.replaceAt (At i) c t) ≡ replace (viewCluster c) (viewTable t)
     at i e =
         let b = place-below (c .part) t i few e in
-        ap (map viewCluster) (counted-few clustersMost (t .count) noCluster (putAt i c (t .clusters)) few ∙ take-put i (t .count) c (t .clusters) (b .0) (b .1))
-        ∙ map-put viewCluster i c seen
-        ∙ sym (changed-in (c .part) t i few e .replaced 0 (rw (view-few t few) at (rising-clusters (viewTable t) h)) (viewCluster c) refl)
+        let mark = getD (t .clusters) i noCluster .stays in
+        let new = clusters.withMark c mark in
+        let same : mark ≡ getD (map viewCluster seen) i (viewCluster noCluster) .stays = mark-seen t i (b .0) in
+        ap (map viewCluster) (counted-few clustersMost (t .count) noCluster (putAt i new (t .clusters)) few ∙ take-put i (t .count) new (t .clusters) (b .0) (b .1))
+        ∙ map-put viewCluster i new seen
+        ∙ ap (λ (d : Cluster). putAt i d (map viewCluster seen)) (view-with-mark c mark ∙ ap (withMark (viewCluster c)) same)
+        ∙ sym (changed-in (c .part) t i few e .replaced 0 (rw (view-few t few) at (rising-clusters (viewTable t) h)) (viewCluster c) (viewCluster noCluster) refl)
         ∙ ap (replace (viewCluster c)) (sym (view-few t few))
 
     go : (f : Found) → placeOf (c .part) (viewTable t) ≡ f → viewTable (exact.replaceAt f c t) ≡ replace (viewCluster c) (viewTable t)
@@ -106,12 +120,12 @@ view-take-out part t h = go (placeOf part (viewTable t)) refl
 -- ---- actions
 
 view-install : (c : ClusterStruct) (t : TableStruct) → length (t .clusters) ≡ clustersMost → t .count ≤ clustersMost → leb clustersMost (length (viewTable t)) ≡ false
-    → viewTable (exact.change Install c t) ≡ insert (viewCluster c) (viewTable t)
+    → viewTable (exact.change Install c t) ≡ insert (withMark (viewCluster c) false) (viewTable t)
 view-install c t long few r =
     let l : t .count < clustersMost = omega (arith, leb-false clustersMost (length (viewTable t)) r, table-length t few long) in
-    rw (lt-leb clustersMost (t .count) l) (view-insert c t l)
+    rw (lt-leb clustersMost (t .count) l) (view-insert (clusters.withMark c false) t l ∙ ap (λ (d : Cluster). insert d (viewTable t)) (view-with-mark c false))
 
--- an action that passes 11 to 15, on a table within its limits
+-- an action that passes 11 to 15 and 21, on a table within its limits
 pub view-apply : (t : TableStruct) (listed : List Action) (a : ActionStruct) → length (t .clusters) ≡ clustersMost → tableWithin (viewTable t) ≡ true
     → passes (viewTable t) listed (viewAction a) ≡ true → viewTable (exact.apply a t) ≡ apply (viewAction a) (viewTable t)
 unfolding exact.apply apply tableFull
@@ -141,7 +155,7 @@ module _ (t : TableStruct) (long : length (t .clusters) ≡ clustersMost) where
   length-replace c few = go (placeOf (c .part) (viewTable t)) refl
     where
       go : (f : Found) → placeOf (c .part) (viewTable t) ≡ f → length (exact.replaceAt f c t .clusters) ≡ clustersMost
-      go (At i) e = length-put i c (t .clusters) (place-below (c .part) t i few e .1) ∙ long
+      go (At i) e = length-put i (clusters.withMark c (getD (t .clusters) i noCluster .stays)) (t .clusters) (place-below (c .part) t i few e .1) ∙ long
       go Nothing e = long
 
   length-take-out : (part : ℕ) → t .count ≤ clustersMost → length (exact.takeOut part t .clusters) ≡ clustersMost
@@ -158,6 +172,6 @@ module _ (t : TableStruct) (long : length (t .clusters) ≡ clustersMost) where
     where
       go : (k : Change) → t .count ≤ clustersMost → length (exact.change k (a .cluster) t .clusters) ≡ clustersMost
       go Install few =
-          bool-cases (leb clustersMost (t .count)) (λ z. rw z long) λ z. rw z (length-insert (a .cluster) (leb-false clustersMost (t .count) z))
+          bool-cases (leb clustersMost (t .count)) (λ z. rw z long) λ z. rw z (length-insert (clusters.withMark (a .cluster) false) (leb-false clustersMost (t .count) z))
       go Update few = length-replace (a .cluster) few
       go Remove few = length-take-out (a .cluster .part) few

@@ -1,17 +1,17 @@
 -- The tables that the functions give, unused places included. proofs/Views.antt has what they stand for.
 use Prim.Native.Nat.{ℕ, _+_, _-_}
-use mathlib.Core.Bool.{cond}
+use mathlib.Core.Bool.{cond, false}
 use mathlib.Core.List.{_∷_, _++_}
 use lib.Dec.{leb}
-use lib.ListN.{take, drop}
+use lib.ListN.{take, drop, getD}
 use Rattle.clusters.specs.declared.cluster.Cluster.{Cluster}
 use Rattle.clusters.specs.declared.table.Table.{Table}
 use Rattle.place_in_list.specs.declared.Found.{Found}
 use Rattle.place_in_list.specs.declared.Found.the-variants.{At, Nothing}
 use Rattle.clusters.specs.Table.{clustersMost}
-use Rattle.clusters.specs.View.{viewTable}
+use Rattle.clusters.specs.View.{noCluster, viewTable}
 use Rattle.clusters.specs.Place.{placeOf}
-use Rattle.clusters.specs.Exact.{putAt}
+use Rattle.clusters.specs.Exact.{putAt, withMark}
 use Rattle.actions.specs.declared.action.Change.{Change}
 use Rattle.actions.specs.declared.action.Change.the-variants.{Install, Update, Remove}
 use Rattle.actions.specs.declared.action.Action.{Action}
@@ -28,9 +28,9 @@ insertAt i c t = record {
 unfoldable pub insert : Cluster → Table → Table
 insert c t = insertAt (insertPlaceFrom 0 (c .part) (viewTable t)) c t
 
--- a cluster in the place that was found
+-- a cluster in the place that was found, with the mark of the one that stood there
 abbrev pub replaceAt : Found → Cluster → Table → Table
-replaceAt (At i) c t = record { clusters = putAt i c (t .clusters); count = t .count }
+replaceAt (At i) c t = record { clusters = putAt i (withMark c (getD (t .clusters) i noCluster .stays)) (t .clusters); count = t .count }
 replaceAt Nothing c t = t
 
 -- a cluster in the place of the one with its part number
@@ -53,9 +53,9 @@ takeOutAt Nothing t = t
 unfoldable pub takeOut : ℕ → Table → Table
 takeOut part t = takeOutAt (placeOf part (viewTable t)) t
 
--- a full table is left as it is by an install
+-- an install gives mark 0, and leaves a full table as it is
 abbrev pub change : Change → Cluster → Table → Table
-change Install c t = cond (leb clustersMost (t .count)) t (insert c t)
+change Install c t = cond (leb clustersMost (t .count)) t (insert (withMark c false) t)
 change Update c t = replace c t
 change Remove c t = takeOut (c .part) t
 

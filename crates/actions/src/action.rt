@@ -4,6 +4,7 @@ use crate::place::replace;
 use crate::place::take_out;
 use clusters::cluster::Cluster;
 use clusters::cluster::new_cluster;
+use clusters::cluster::with_mark;
 use clusters::table::CLUSTERS_MOST;
 use clusters::table::Table;
 use text::version::NO_VERSION;
@@ -17,7 +18,8 @@ pub enum Change {
     Remove,
 }
 
-// Of a remove only the cluster's part number counts; its version and needs are unused places.
+// Of a remove only the cluster's part number counts; its version and needs are unused places. The mark of the cluster is an unused
+// place of every action.
 pub struct Action {
     pub change: Change,
     pub cluster: Cluster,
@@ -49,7 +51,7 @@ pub fn apply(t: Table, a: Action) -> Table
             if count >= CLUSTERS_MOST {
                 return t;
             }
-            insert(t, c)
+            insert(t, with_mark(c, false))
         }
         Change::Update => replace(t, c),
         Change::Remove => take_out(t, c.part),

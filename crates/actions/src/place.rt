@@ -1,5 +1,6 @@
 // Clusters put into a table, replaced and taken out. What is required of a table is met by the check of its limits.
 use clusters::cluster::Cluster;
+use clusters::cluster::with_mark;
 use clusters::table::Table;
 use clusters::table::find;
 use place_in_list::Found;
@@ -58,7 +59,7 @@ pub fn insert(t: Table, c: Cluster) -> Table
     insert_at(t, place, c)
 }
 
-// A cluster in the place of the one with its part number.
+// A cluster in the place of the one with its part number, whose mark it keeps.
 pub fn replace(t: Table, c: Cluster) -> Table
     requires { ⌜ t .count ≤ clustersMost ⌝ }
     ensures { λ r. ⌜ r ≡ replace c t ⌝ }
@@ -67,7 +68,9 @@ pub fn replace(t: Table, c: Cluster) -> Table
         return t;
     };
     let mut clusters = t.clusters;
-    clusters[place] = c;
+    let old = clusters[place];
+    let new = with_mark(c, old.stays);
+    clusters[place] = new;
     Table {
         clusters: clusters,
         count: t.count,

@@ -1,4 +1,4 @@
-// The refusals 11 to 15 of an action.
+// The refusals of an action: 11 to 15, and 21 directly after 13.
 use crate::action::Action;
 use crate::action::Change;
 use clusters::table::CLUSTERS_MOST;
@@ -10,6 +10,7 @@ use refusal::CLUSTER_ABSENT;
 use refusal::CLUSTER_PRESENT;
 use refusal::CLUSTER_TOUCHED;
 use refusal::OLD_VERSION;
+use refusal::STAYS;
 use refusal::TABLE_FULL;
 use text::version::Version;
 ghost use mathlib.Core.Path.{_≡_};
@@ -22,13 +23,14 @@ ghost use Rattle.clusters.specs.Table as table;
 ghost use Rattle.clusters.specs.Table.{clustersMost};
 ghost use Rattle.clusters.specs.View.{viewTable};
 ghost use Rattle.actions.specs.Action.{Action as PlainAction, actionPart};
-ghost use Rattle.actions.specs.Refusals.{touched, isStaged, clusterPresent, clusterAbsent, oldVersion, tableFull, stagedRefusals, actionRefusal};
+ghost use Rattle.actions.specs.Refusals.{touched, isStaged, clusterPresent, clusterAbsent, clusterStays, oldVersion, tableFull};
+ghost use Rattle.actions.specs.Refusals.{stagedRefusals, actionRefusal};
 ghost use Rattle.actions.specs.Staged.{stagedAs};
 ghost use Rattle.actions.specs.View.{actionOf, viewAction};
 
-// What is looked at of the cluster that is staged under a part number: its version, or that there is none.
+// What is looked at of the cluster that is staged under a part number: its version and mark, or that there is none.
 pub enum Staged {
-    At(Version),
+    At(Version, bool),
     Nothing,
 }
 
@@ -37,7 +39,7 @@ fn is_staged(staged: Staged) -> bool
     ensures { λ r. ⌜ ((found : Option PlainCluster) → staged ≡ stagedAs found → r ≡ isStaged found) ⌝ }
 {
     match staged {
-        Staged::At(_) => true,
+        Staged::At(_, _) => true,
         Staged::Nothing => false,
     }
 }
@@ -64,11 +66,25 @@ fn cluster_absent(staged: Staged, change: Change) -> bool
     }
 }
 
+// "21 Stays .. for remove of a cluster marked 1"
+fn cluster_stays(staged: Staged, change: Change) -> bool
+    ensures { λ r. ⌜ ((found : Option PlainCluster) (c : PlainCluster) → staged ≡ stagedAs found → r ≡ clusterStays found (actionOf change c)) ⌝ }
+{
+    let Staged::At(_, stays) = staged else {
+        return false;
+    };
+    match change {
+        Change::Install => false,
+        Change::Update => false,
+        Change::Remove => stays,
+    }
+}
+
 // "14. OldVersion: update not above the staged version."
 fn old_version(staged: Staged, change: Change, version: Version) -> bool
     ensures { λ r. ⌜ ((found : Option PlainCluster) (c : PlainCluster) → staged ≡ stagedAs found → version ≡ c .version → r ≡ oldVersion found (actionOf change c)) ⌝ }
 {
-    let Staged::At(old) = staged else {
+    let Staged::At(old, _) = staged else {
         return false;
     };
     match change {
@@ -89,7 +105,7 @@ fn table_full(count: usize, change: Change) -> bool
     }
 }
 
-// The number of the first of 12 to 15 that applies, or 0: of a change to a version, by what is staged of the cluster and how many are
+// The number of the first of 12, 13, 21, 14 and 15 that applies, or 0: of a change to a version, by what is staged of the cluster and how many are
 // staged.
 pub fn staged_refusal(staged: Staged, count: usize, change: Change, version: Version) -> u32
     ensures { λ r. ⌜ ((found : Option PlainCluster) (c : PlainCluster) → staged ≡ stagedAs found → version ≡ c .version → r ≡ numberOrZero (firstRefusal (stagedRefusals found count (actionOf change c)))) ⌝ }
@@ -99,6 +115,9 @@ pub fn staged_refusal(staged: Staged, count: usize, change: Change, version: Ver
     }
     if cluster_absent(staged, change) {
         return CLUSTER_ABSENT;
+    }
+    if cluster_stays(staged, change) {
+        return STAYS;
     }
     if old_version(staged, change, version) {
         return OLD_VERSION;
@@ -119,10 +138,10 @@ fn staged_in(t: Table, part: u32) -> Staged
     };
     let cluster = t.clusters[i];
     let version = cluster.version;
-    Staged::At(version)
+    Staged::At(version, cluster.stays)
 }
 
-// The number of the first of the refusals 11 to 15 of an action on a staged table, or 0. Whether the session's list has the
+// The number of the first of the refusals 11 to 15 and 21 of an action on a staged table, or 0. Whether the session's list has the
 // cluster is the caller's to say; the check of the limits of the table meets what is required.
 pub fn action_refusal(t: Table, in_list: bool, a: Action) -> u32
     requires { ⌜ t .count ≤ clustersMost ⌝ }

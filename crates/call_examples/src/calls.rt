@@ -1,5 +1,6 @@
-// A case is a call, or each of the twelve on the state changed to one that is not sound, or shows the store.
+// A case is a call, or each of the twelve on the state changed to one that is not sound or with a mark set, or shows the store.
 use crate::answers::show_answer;
+use crate::marks::marked;
 use crate::unsound::made_unsound;
 use cancel_processing::cancel;
 use cases::case::field;
@@ -47,7 +48,7 @@ fn make_call(s: State, store: &mut [u8], case: &[u8], kind: usize) -> State {
     }
 }
 
-// Each of the twelve calls on a state that is not sound, in the order of the sentences.
+// Each of the twelve calls on a state, in the order of the sentences.
 fn make_each_call(s: State, store: &mut [u8], case: &[u8]) {
     let mut kind = 1;
     while kind < 14 {
@@ -83,6 +84,7 @@ fn show_case(s: State, store: &mut [u8], case: &[u8], kind: usize) {
         14 => show_payload(s, store, number_of(field(case, 1))),
         15 => show_store(store),
         16 => make_each_call(made_unsound(s, number_of(field(case, 2))), store, case),
+        17 => make_each_call(marked(s, number_of(field(case, 2))), store, case),
         _ => show::bytes(b" no such kind of case"),
     }
 }
@@ -93,8 +95,8 @@ pub fn make_case(s: State, store: &mut [u8], case: &[u8]) -> State {
     show::with_fields(sentence, case);
     let kind = kind_of(
         sentence,
-        b"load, first id %:;start %:;data % %:;exit %:;delete %:;process %:;work %:;cancel %:;revert:;activate:;rollback:;finish:;report good:;report bad:;payload %:;store:;unsound, %:;",
-        17,
+        b"load, first id %:;start %:;data % %:;exit %:;delete %:;process %:;work %:;cancel %:;revert:;activate:;rollback:;finish:;report good:;report bad:;payload %:;store:;unsound, %:;mark set in the %:;",
+        18,
     );
     if kind < 14 {
         return make_call(s, store, case, kind);

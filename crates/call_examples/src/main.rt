@@ -2,6 +2,7 @@
 // written from document 01.
 mod answers;
 mod calls;
+mod marks;
 mod unsound;
 
 use crate::calls::make_case;

@@ -16,7 +16,7 @@ line text rest = bytes text ++ (LF ∷ rest)
 
 document-list : (given : State)
     → answerTo given (line "version,cluster,least,needs" (line "1.0.0.3,11,1.0.0.0,20" (line "1.0.4.0,20,," [])))
-    ≡ line "cluster,version,needs,least" (line "11,1.0.0.3,20,1.0.0.0" (line "20,1.0.4.0,," []))
+    ≡ line "cluster,version,needs,least,stays" (line "11,1.0.0.3,20,1.0.0.0,0" (line "20,1.0.4.0,,,0" []))
 unfolding computing answerTo
 document-list given = refl
 

@@ -1,8 +1,9 @@
--- How long a table within its limits is as text: at most 11,612 bytes. A part number has at most 10 digits and a version at most
--- 23 bytes, so a cluster's line has at most 70 bytes, a need's line at most 37, and the names line has 28. Assumes nothing.
+-- How long a table within its limits is as a list of five names: at most 11,938 bytes. A part number has at most 10 digits, a version
+-- at most 23 bytes and a mark one, so a cluster's line has at most 72 bytes, a need's line at most 38, and the names line has 34.
+-- Assumes nothing.
 use Prim.Native.Nat.{ℕ, _+_, _*_, _≤_}
 use mathlib.Core.Path.{_≡_, refl}
-use mathlib.Core.Bool.{true}
+use mathlib.Core.Bool.{Bool, true, false}
 use mathlib.Core.List.{List, [], _∷_}
 use native.Mathlib.Omega.{arith}
 use lib.Dec.{leb, ltb}
@@ -18,16 +19,22 @@ use Rattle.rows.specs.Line.{lineText}
 use Rattle.clusters.specs.declared.cluster.Need.{Need}
 use Rattle.clusters.specs.Cluster.{Cluster, partWithin, needWithin, needsWithin, needsMost, clusterWithin}
 use Rattle.clusters.specs.Table.{Table, clustersMost, risingAbove, tableWithin}
-use Rattle.cluster_list.specs.Write.{writtenListMost, namesLine, needCells, needLineText, needLinesText, clusterLines, clustersText, writeList}
+use Rattle.cluster_list.specs.Write.{writtenListMost, fiveNames, lineIn, namesLine, markText, needCells, needLineText, needLinesText}
+use Rattle.cluster_list.specs.Write.{clusterLines, clustersText, listText, writeList}
 
--- three commas and LF
-pub line-length : (w x y z : List ℕ) → length (lineText (w ∷ x ∷ y ∷ z ∷ [])) ≡ length w + length x + length y + length z + 4
+-- four commas and LF
+pub line-length : (w x y z mark : List ℕ)
+    → length (lineIn fiveNames (w ∷ x ∷ y ∷ z ∷ []) mark) ≡ length w + length x + length y + length z + length mark + 5
 unfolding lineText
-line-length w x y z = simp length-append (omega arith)
+line-length w x y z mark = simp length-append (omega arith)
 
-pub names-length : length namesLine ≡ 28
+pub names-length : length (namesLine fiveNames) ≡ 34
 unfolding lineText
 names-length = refl
+
+pub mark-length : (stays : Bool) → length (markText stays) ≡ 1
+mark-length false = refl
+mark-length true = refl
 
 part-most : (part : ℕ) → partWithin part ≡ true → length (digits part) ≤ 10
 unfolding partWithin
@@ -43,68 +50,77 @@ module _ (n : Need) (h : needWithin n ≡ true) where
         version-most (n .least) (and-right (partWithin (n .part)) _ h),
       )
 
-  need-line-most : length (needLineText n) ≤ 37
+  need-line-most : length (needLineText fiveNames n) ≤ 38
   unfolding needLineText
-  need-line-most = omega (arith, line-length [] [] (digits (n .part)) (versionText (n .least)), need-most)
+  need-line-most = omega (arith, line-length [] [] (digits (n .part)) (versionText (n .least)) [], need-most)
 
-need-lines-most : (ns : List Need) → needsWithin ns ≡ true → length (needLinesText ns) ≤ 37 * length ns
+need-lines-most : (ns : List Need) → needsWithin ns ≡ true → length (needLinesText fiveNames ns) ≤ 38 * length ns
 unfolding needsWithin needLinesText
 need-lines-most [] h = omega arith
 need-lines-most (n ∷ ns) h =
     omega (
       arith,
-      length-append (needLineText n) (needLinesText ns),
+      length-append (needLineText fiveNames n) (needLinesText fiveNames ns),
       need-line-most n (and-left (needWithin n) _ h),
       need-lines-most ns (and-right (needWithin n) _ h),
     )
 
-module _ (part : ℕ) (version : Version) (h : partWithin part ≡ true) (w : versionWithin version ≡ true) where
+module _ (part : ℕ) (version : Version) (stays : Bool) (h : partWithin part ≡ true) (w : versionWithin version ≡ true) where
   lines-most : (ns : List Need) → needsWithin ns ≡ true → length ns ≤ needsMost
-      → length (lineText (digits part ∷ versionText version ∷ needCells ns)) + length (needLinesText (drop 1 ns)) ≤ 181
+      → length (lineIn fiveNames (digits part ∷ versionText version ∷ needCells ns) (markText stays))
+      + length (needLinesText fiveNames (drop 1 ns)) ≤ 186
   unfolding needsWithin needLinesText
   lines-most [] n o =
-      omega (arith, line-length (digits part) (versionText version) [] [], part-most part h, version-most version w)
+      omega (
+        arith,
+        line-length (digits part) (versionText version) [] [] (markText stays),
+        part-most part h,
+        version-most version w,
+        mark-length stays,
+      )
   lines-most (n ∷ ns) v o =
       omega (
         arith,
-        line-length (digits part) (versionText version) (digits (n .part)) (versionText (n .least)),
+        line-length (digits part) (versionText version) (digits (n .part)) (versionText (n .least)) (markText stays),
         part-most part h,
         version-most version w,
+        mark-length stays,
         need-most n (and-left (needWithin n) _ v),
         need-lines-most ns (and-right (needWithin n) _ v),
       )
 
-pub cluster-lines-most : (c : Cluster) → clusterWithin c ≡ true → length (clusterLines c) ≤ 181
+pub cluster-lines-most : (c : Cluster) → clusterWithin c ≡ true → length (clusterLines fiveNames c) ≤ 186
 unfolding clusterWithin clusterLines
 cluster-lines-most c within =
     let behind-part = and-right (partWithin (c .part)) _ within in
     let behind-version = and-right (versionWithin (c .version)) _ behind-part in
     omega (
       arith,
-      length-append (lineText (digits (c .part) ∷ versionText (c .version) ∷ needCells (c .needs))) (needLinesText (drop 1 (c .needs))),
-      lines-most (c .part) (c .version) (and-left (partWithin (c .part)) _ within) (and-left (versionWithin (c .version)) _ behind-part)
+      length-append (lineIn fiveNames (digits (c .part) ∷ versionText (c .version) ∷ needCells (c .needs)) (markText (c .stays)))
+          (needLinesText fiveNames (drop 1 (c .needs))),
+      lines-most (c .part) (c .version) (c .stays) (and-left (partWithin (c .part)) _ within) (and-left (versionWithin (c .version)) _ behind-part)
           (c .needs) (and-right (leb (length (c .needs)) needsMost) _ behind-version) (leb-true (length (c .needs)) needsMost (and-left _ _ behind-version)),
     )
 
-clusters-most : (last : ℕ) (t : Table) → risingAbove last t ≡ true → length (clustersText t) ≤ 181 * length t
+clusters-most : (last : ℕ) (t : Table) → risingAbove last t ≡ true → length (clustersText fiveNames t) ≤ 186 * length t
 unfolding risingAbove clustersText
 clusters-most last [] h = omega arith
 clusters-most last (c ∷ t) h =
     let behind-over = and-right (ltb last (c .part)) _ h in
     omega (
       arith,
-      length-append (clusterLines c) (clustersText t),
+      length-append (clusterLines fiveNames c) (clustersText fiveNames t),
       cluster-lines-most c (and-left (clusterWithin c) _ behind-over),
       clusters-most (c .part) t (and-right (clusterWithin c) _ behind-over),
     )
 
--- 28 + 64 × 181
+-- 34 + 64 × 186
 pub list-most : (t : Table) → tableWithin t ≡ true → length (writeList t) ≤ writtenListMost
-unfolding tableWithin writeList
+unfolding tableWithin listText
 list-most t h =
     omega (
       arith,
-      length-append namesLine (clustersText t),
+      length-append (namesLine fiveNames) (clustersText fiveNames t),
       names-length,
       clusters-most 0 t (and-right (leb (length t) clustersMost) _ h),
       leb-true (length t) clustersMost (and-left _ _ h),

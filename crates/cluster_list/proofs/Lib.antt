@@ -1,9 +1,11 @@
 pub mod ThenLaws
+pub mod MarkLaws
 pub mod FirstNeed
 pub mod Last
 pub mod RoundTrip
 pub mod CellsWithin
 pub mod Within
+pub mod FourNames
 pub mod Lengths
 pub mod Built
 pub mod ReadLaws

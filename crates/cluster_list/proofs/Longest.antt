@@ -11,30 +11,30 @@ use lib.Dec.{leb}
 use lib.ListN.{length, replicate, length-append}
 use borrow.Author.Tests.{le-leb}
 use Rattle.base.proofs.Tests.{and-both}
+use Rattle.base.specs.Quoted.{bytes}
 use Rattle.text.specs.declared.version.Version.{Version}
 use Rattle.text.specs.Digits.{digitsIn, digits}
-use Rattle.text.specs.Version.{versionPartMost, versionWithin, versionText}
+use Rattle.text.specs.Version.{versionPartMost, version, versionWithin, versionText}
 use Rattle.text.proofs.DigitLaws.{ten-digits, digits-from}
-use Rattle.rows.specs.Line.{lineText}
 use Rattle.clusters.specs.declared.cluster.Need.{Need}
-use Rattle.clusters.specs.Cluster.{Cluster, partWithin, needWithin, needsWithin, needsMost, clusterWithin}
+use Rattle.clusters.specs.Cluster.{Cluster, cluster, need, partWithin, needWithin, needsWithin, needsMost, clusterWithin}
 use Rattle.clusters.specs.Table.{Table, clustersMost, risingAbove, tableWithin}
 use Rattle.clusters.proofs.Limits.{rising-is}
 use Rattle.cluster_list.specs.Read.{readListMost, readList}
-use Rattle.cluster_list.specs.Write.{writtenListMost, namesLine, needLineText, needLinesText, writeList}
+use Rattle.cluster_list.specs.Write.{writtenListMost, fiveNames, lineIn, namesLine, needLineText, needLinesText, listText, writeList}
 use Rattle.cluster_list.proofs.RoundTrip.{linesWith, tableWith, writer-table, list-with-back}
 use Rattle.cluster_list.proofs.Lengths.{line-length, names-length}
 
 -- ---- the largest values
 
 abbrev largestVersion : Version
-largestVersion = record { first = versionPartMost; second = versionPartMost; third = versionPartMost; fourth = versionPartMost }
+largestVersion = version versionPartMost versionPartMost versionPartMost versionPartMost
 
 abbrev largestNeed : Need
-largestNeed = record { part = 4294967295; least = largestVersion }
+largestNeed = need 4294967295 largestVersion
 
 abbrev largest : ℕ → Cluster
-largest part = record { part = part; version = largestVersion; needs = replicate needsMost largestNeed }
+largest part = cluster part largestVersion (replicate needsMost largestNeed)
 
 -- so many clusters, with the part numbers from `part` on
 abbrev largestFrom : ℕ → ℕ → Table
@@ -46,7 +46,7 @@ abbrev pub longestTable : Table
 longestTable = largestFrom clustersMost 4294967232
 
 abbrev pub longestList : List ℕ
-longestList = namesLine ++ tableWith 0 longestTable
+longestList = namesLine fiveNames ++ tableWith fiveNames 0 longestTable
 
 -- ---- within the limits
 
@@ -67,15 +67,15 @@ longest-within = largest-rise 64 0 4294967232 (omega arith) (omega arith)
 
 -- ---- their lengths
 
-module _ (first each : ℕ) (long : (part : ℕ) → length (digits part) ≡ 10 → length (linesWith first (largest part)) ≡ each) where
-  largest-length : (n part : ℕ) → 1000000000 ≤ part → part + n ≤ 4294967296 → length (tableWith first (largestFrom n part)) ≡ each * n
+module _ (first each : ℕ) (long : (part : ℕ) → length (digits part) ≡ 10 → length (linesWith fiveNames first (largest part)) ≡ each) where
+  largest-length : (n part : ℕ) → 1000000000 ≤ part → part + n ≤ 4294967296 → length (tableWith fiveNames first (largestFrom n part)) ≡ each * n
   unfolding tableWith
   largest-length zero part l m = omega arith
   largest-length (suc n) part l m =
       let ten : length (digits part) ≡ 10 = omega (arith, ten-digits part (omega arith), digits-from 9 part l) in
       omega (
         arith,
-        length-append (linesWith first (largest part)) (tableWith first (largestFrom n (part + 1))),
+        length-append (linesWith fiveNames first (largest part)) (tableWith fiveNames first (largestFrom n (part + 1))),
         long part ten,
         largest-length n (part + 1) (omega arith) (omega arith),
       )
@@ -88,52 +88,58 @@ version-bytes : length (versionText largestVersion) ≡ 23
 unfolding versionText digits digitsIn
 version-bytes = refl
 
-below-bytes : (n : ℕ) → length (needLinesText (replicate n largestNeed)) ≡ 37 * n
+-- the line of a cluster with the fields y and z, and the lines of so many needs below it
+abbrev largestLine : ℕ → List ℕ → List ℕ → List ℕ
+largestLine part y z = lineIn fiveNames (digits part ∷ versionText largestVersion ∷ y ∷ z ∷ []) (bytes "0")
+
+abbrev largestBelow : ℕ → List ℕ
+largestBelow n = needLinesText fiveNames (replicate n largestNeed)
+
+below-bytes : (n : ℕ) → length (largestBelow n) ≡ 38 * n
 unfolding needLinesText needLineText
 below-bytes zero = refl
 below-bytes (suc n) =
     omega (
       arith,
-      length-append (needLineText largestNeed) (needLinesText (replicate n largestNeed)),
-      line-length [] [] (digits 4294967295) (versionText largestVersion),
+      length-append (needLineText fiveNames largestNeed) (largestBelow n),
+      line-length [] [] (digits 4294967295) (versionText largestVersion) [],
       part-bytes,
       version-bytes,
       below-bytes n,
     )
 
--- a cluster's line with the fields y and z, and n needs below it
 line-bytes : (part n : ℕ) (y z : List ℕ) → length (digits part) ≡ 10
-    → length (lineText (digits part ∷ versionText largestVersion ∷ y ∷ z ∷ []) ++ needLinesText (replicate n largestNeed)) ≡ 37 + length y + length z + 37 * n
+    → length (largestLine part y z ++ largestBelow n) ≡ 39 + length y + length z + 38 * n
 line-bytes part n y z ten =
     omega (
       arith,
-      length-append (lineText (digits part ∷ versionText largestVersion ∷ y ∷ z ∷ [])) (needLinesText (replicate n largestNeed)),
-      line-length (digits part) (versionText largestVersion) y z,
+      length-append (largestLine part y z) (largestBelow n),
+      line-length (digits part) (versionText largestVersion) y z (bytes "0"),
       version-bytes,
       below-bytes n,
     )
 
-first-on-line : (part : ℕ) → length (digits part) ≡ 10 → length (linesWith 1 (largest part)) ≡ 181
+first-on-line : (part : ℕ) → length (digits part) ≡ 10 → length (linesWith fiveNames 1 (largest part)) ≡ 186
 unfolding linesWith
 first-on-line part ten =
     line-bytes part 3 (digits 4294967295) (versionText largestVersion) ten ∙ omega (arith, part-bytes, version-bytes)
 
-all-below : (part : ℕ) → length (digits part) ≡ 10 → length (linesWith 0 (largest part)) ≡ 185
+all-below : (part : ℕ) → length (digits part) ≡ 10 → length (linesWith fiveNames 0 (largest part)) ≡ 191
 unfolding linesWith
 all-below part ten = line-bytes part 4 [] [] ten
 
 -- no list that is written is longer (proofs/Lengths.antt), and this one is as long
 pub longest-written : length (writeList longestTable) ≡ writtenListMost
-unfolding writeList
+unfolding listText
 longest-written =
-    rw (writer-table longestTable)
-    (length-append namesLine (tableWith 1 longestTable)
-    ∙ omega (arith, names-length, largest-length 1 181 first-on-line 64 4294967232 (omega arith) (omega arith)))
+    rw (writer-table fiveNames longestTable)
+    (length-append (namesLine fiveNames) (tableWith fiveNames 1 longestTable)
+    ∙ omega (arith, names-length, largest-length 1 186 first-on-line 64 4294967232 (omega arith) (omega arith)))
 
 -- no list that is read is longer (proofs/ReadLengths.antt), and this one is as long
 pub longest-read : (readList longestList ≡ some longestTable) × (length longestList ≡ readListMost)
 longest-read = (
-  list-with-back 0 (omega arith) longestTable longest-within,
-  length-append namesLine (tableWith 0 longestTable)
-      ∙ omega (arith, names-length, largest-length 0 185 all-below 64 4294967232 (omega arith) (omega arith)),
+  list-with-back fiveNames 0 (omega arith) longestTable longest-within,
+  length-append (namesLine fiveNames) (tableWith fiveNames 0 longestTable)
+      ∙ omega (arith, names-length, largest-length 0 191 all-below 64 4294967232 (omega arith) (omega arith)),
 )

@@ -1,5 +1,6 @@
--- How long a text is that reads as a table: at most 11,868 bytes. A line that adds a cluster without a need, or a need, has at most 37
--- bytes, and one that adds both at most 70; the names line has 28. Assumes nothing.
+-- How long a text is that reads as a table: at most 12,258 bytes. In a list of five names a line that adds a cluster without a need has
+-- at most 39 bytes, one that adds a need 38, and one that adds both 72; the names line has 34. In a list of four names each has less.
+-- Assumes nothing.
 use Prim.Native.Nat.{ℕ, zero, suc, _+_, _*_, _≤_}
 use mathlib.Core.Path.{_≡_, subst}
 use mathlib.Core.Bool.{true, _&&_}
@@ -17,31 +18,34 @@ use Rattle.text.specs.declared.version.Version.{Version}
 use Rattle.text.specs.declared.version.VersionRead.the-variants as version
 use Rattle.text.specs.Number.{wholeNumber}
 use Rattle.text.specs.Version.{wholeVersion}
-use Rattle.text.proofs.DigitLaws.{ten-digits}
+use Rattle.text.proofs.DigitLaws.{length-small, ten-digits}
 use Rattle.text.proofs.Bytes.{version-most}
 use Rattle.text.proofs.Meaning.{whole-number-written, whole-version-written}
 use Rattle.text.proofs.ThenLaws.{then-cases, then-cases-version}
+use Rattle.rows.specs.declared.columns.Column.{Column}
+use Rattle.rows.specs.declared.columns.Column.the-variants.{At, Missing}
 use Rattle.rows.specs.declared.columns.ClusterColumns.{ClusterColumns}
-use Rattle.rows.specs.Columns.{clusterColumns}
-use Rattle.rows.specs.Names.{clusterNames}
-use Rattle.rows.proofs.ColumnMeaning.{column-cell}
-use Rattle.rows.proofs.Empty.{empty-length}
-use Rattle.rows.proofs.NamesOnce.{Placed, none as nowhere, more, clusterPlaces, cluster-placed}
-use Rattle.rows.proofs.ThenLaws.{then-cases-line, then-cases-cluster-columns}
+use Rattle.rows.specs.declared.list_columns.ListColumns.{ListColumns}
 use Rattle.rows.specs.Field.{cell, isEmpty}
 use Rattle.rows.specs.Line.{lineFrom}
+use Rattle.rows.specs.ListColumns.{listColumns}
+use Rattle.rows.proofs.Empty.{empty-length}
+use Rattle.rows.proofs.NamesOnce.{ListPlaced, list-placed}
+use Rattle.rows.proofs.ThenLaws.{then-cases-line, then-cases-list-columns}
 use Rattle.clusters.specs.declared.cluster.Need.{Need}
 use Rattle.clusters.specs.Cluster.{Cluster, needsMost}
 use Rattle.clusters.specs.Table.{Table, clustersMost, risingAbove, tableWithin}
 use Rattle.clusters.proofs.Limits.{rising-says, few-clusters, rising-clusters, cluster-few-needs}
+use Rattle.cluster_list.specs.declared.cells.OptionalNeed.{OptionalNeed}
 use Rattle.cluster_list.specs.declared.cells.NeedRead.{NeedRead}
 use Rattle.cluster_list.specs.declared.cells.NeedRead.the-variants as need
 use Rattle.cluster_list.specs.Cells.{partField, needOf, needFields, needsFilled}
+use Rattle.cluster_list.specs.Mark.{commasOf, markField, noMark}
 use Rattle.cluster_list.specs.Read.{lastPart, clusterAdded, needAdded, needLine, clusterBegun, clusterLine, valueLine, valueLines, readList, readListMost}
 use Rattle.cluster_list.proofs.ThenLaws.{then-cases-need, then-cases-filled}
 use Rattle.cluster_list.proofs.FirstNeed.{few-filled}
 use Rattle.cluster_list.proofs.Within.{then-cases-some, readList-within}
-use Rattle.cluster_list.proofs.LineLength.{rowLength, row-bytes}
+use Rattle.cluster_list.proofs.LineLength.{fourLength, rowLength, row-bytes, names-most}
 
 -- ---- fields
 
@@ -79,31 +83,47 @@ need-short w v =
     then-cases-version (ShortNeed w v) need.IllFormed (wholeVersion v) _ tt λ least next f.
     omega (arith, part-read-short w part behind e, version-read-short v least next f)
 
+-- an empty mark has no byte, and a mark one
+no-mark-short : (columns : ClusterColumns) (stays : Column) (l : List ℕ) → noMark stays l ≡ true
+    → rowLength columns stays l ≤ fourLength columns l + 5
+unfolding noMark
+no-mark-short columns Missing l h = omega arith
+no-mark-short columns (At stays) l h = omega (arith, empty-length (cell stays l) h)
+
+mark-short : (columns : ClusterColumns) (stays : Column) (l : List ℕ) (mark : ℕ) (next : Cursor) → markField stays l ≡ number.Value mark next
+    → rowLength columns stays l ≤ fourLength columns l + 6
+unfolding markField
+mark-short columns Missing l mark next e = omega arith
+mark-short columns (At stays) l mark next e =
+    let written = whole-number-written 1 (cell stays l) mark next e in
+    let one : length (cell stays l) ≡ 1 = rw (written .0) (length-small mark (omega (arith, written .1))) in
+    omega arith
+
 -- ---- what a line adds
 
--- the clusters of a table and their needs, counted together
-unfoldable entries : Table → ℕ
-entries [] = 0
-entries (c ∷ t) = 1 + length (c .needs) + entries t
+-- how many bytes the lines of a table can have: 39 for each cluster and 38 for each need
+unfoldable room : Table → ℕ
+room [] = 0
+room (c ∷ t) = 39 + 38 * length (c .needs) + room t
 
-entries-more : (t : Table) (c : Cluster) → entries (t ++ c ∷ []) ≡ entries t + 1 + length (c .needs)
-unfolding entries
-entries-more [] c = omega arith
-entries-more (d ∷ t) c = omega (arith, entries-more t c)
+room-more : (t : Table) (c : Cluster) → room (t ++ c ∷ []) ≡ room t + 39 + 38 * length (c .needs)
+unfolding room
+room-more [] c = omega arith
+room-more (d ∷ t) c = omega (arith, room-more t c)
 
--- a line of that many bytes in its fields, with its commas and LF, has at most 37 for each entry that it adds
+-- a line of that many bytes has at most the room for what it adds
 abbrev Adds : ℕ → Table → Option Table → Type 0
 Adds size t none = Unit {0}
-Adds size t (some u) = size + 4 + 37 * entries t ≤ 37 * entries u
+Adds size t (some u) = size + room t ≤ room u
 
-cluster-adds : (size : ℕ) (t : Table) (c : Cluster) → size + 4 ≤ 37 * (1 + length (c .needs)) → Adds size t (clusterAdded t c)
+cluster-adds : (size : ℕ) (t : Table) (c : Cluster) → size ≤ 39 + 38 * length (c .needs) → Adds size t (clusterAdded t c)
 unfolding clusterAdded
 cluster-adds size t c h =
     cond-cases (Adds size t) (leb clustersMost (length t)) _ _ (λ _. tt) λ _.
-    cond-cases (Adds size t) (leb (c .part) (lastPart t)) _ _ (λ _. tt) λ _. omega (arith, entries-more t c)
+    cond-cases (Adds size t) (leb (c .part) (lastPart t)) _ _ (λ _. tt) λ _. omega (arith, room-more t c)
 
-need-adds : (size : ℕ) (t : Table) (n : Need) → size + 4 ≤ 37 → Adds size t (needAdded t n)
-unfolding needAdded entries
+need-adds : (size : ℕ) (t : Table) (n : Need) → size ≤ 38 → Adds size t (needAdded t n)
+unfolding needAdded room
 need-adds size [] n h = tt
 need-adds size (c ∷ []) n h =
     cond-cases (Adds size (c ∷ [])) (leb needsMost (length (c .needs))) _ _ (λ _. tt)
@@ -113,96 +133,104 @@ need-adds size (c ∷ (d ∷ t)) n h =
     then-cases-some (Adds size (c ∷ (d ∷ t))) none (needAdded (d ∷ t) n) _ tt
     λ u e. let w : Adds size (d ∷ t) (some u) = subst (Adds size (d ∷ t)) e rest in omega arith
 
-module _ (columns : ClusterColumns) (l : List ℕ) (t : Table) where
-  need-line-adds : length (cell (columns .cluster) l) + length (cell (columns .version) l) ≡ 0 → Adds (rowLength columns l) t (needLine columns l t)
+module _ (columns : ListColumns) (l : List ℕ) (t : Table) where
+  abbrev four : ClusterColumns
+  four = columns .«cluster_columns»
+
+  -- the bytes of the line
+  abbrev size : ℕ
+  size = rowLength four (columns .stays) l
+
+  needs-fields : (read : OptionalNeed) (next : Cursor) → needFields four l ≡ need.Value read next
+      → length (cell (four .needs) l) + length (cell (four .least) l) ≤ 33 * length (needsFilled read)
+  needs-fields read next e =
+      subst (ShortNeed (cell (four .needs) l) (cell (four .least) l)) e (need-short (cell (four .needs) l) (cell (four .least) l))
+
+  need-line-adds : length (cell (four .cluster) l) + length (cell (four .version) l) ≡ 0 → Adds size t (needLine columns l t)
   unfolding needLine
   need-line-adds z =
-      then-cases-need (Adds (rowLength columns l) t) none (needFields columns l) _ tt λ read next e.
-      then-cases-filled (Adds (rowLength columns l) t) none read _ tt λ n f.
-      need-adds (rowLength columns l) t n
-      (let w : length (cell (columns .needs) l) + length (cell (columns .least) l) ≤ 33 * length (needsFilled read) =
-      subst (ShortNeed (cell (columns .needs) l) (cell (columns .least) l)) e (need-short (cell (columns .needs) l) (cell (columns .least) l)) in
-      omega (arith, few-filled read))
+      cond-cases (Adds size t) (noMark (columns .stays) l) _ _
+      (λ m. then-cases-need (Adds size t) none (needFields four l) _ tt λ read next e.
+      then-cases-filled (Adds size t) none read _ tt λ n f.
+      need-adds size t n (omega (arith, no-mark-short four (columns .stays) l m, needs-fields read next e, few-filled read)))
+      λ _. tt
 
-  cluster-line-adds : Adds (rowLength columns l) t (clusterLine columns l t)
+  cluster-line-adds : Adds size t (clusterLine columns l t)
   unfolding clusterLine clusterBegun
   cluster-line-adds =
-      then-cases (Adds (rowLength columns l) t) none (partField (cell (columns .cluster) l)) _ tt λ part behind e.
-      then-cases-version (Adds (rowLength columns l) t) none (wholeVersion (cell (columns .version) l)) _ tt λ version next f.
-      let first = part-read-short (cell (columns .cluster) l) part behind e in
-      let second = version-read-short (cell (columns .version) l) version next f in
-      let both = need-short (cell (columns .needs) l) (cell (columns .least) l) in
-      then-cases-need (Adds (rowLength columns l) t) none (needFields columns l) _ tt λ read after g.
-      cluster-adds (rowLength columns l) t _
-      (let w : length (cell (columns .needs) l) + length (cell (columns .least) l) ≤ 33 * length (needsFilled read) =
-      subst (ShortNeed (cell (columns .needs) l) (cell (columns .least) l)) g both in
-      omega arith)
+      then-cases (Adds size t) none (partField (cell (four .cluster) l)) _ tt λ part behind e.
+      then-cases-version (Adds size t) none (wholeVersion (cell (four .version) l)) _ tt λ version next f.
+      then-cases-need (Adds size t) none (needFields four l) _ tt λ read after g.
+      then-cases (Adds size t) none (markField (columns .stays) l) _ tt λ mark last m.
+      cluster-adds size t _
+      (omega (
+        arith,
+        part-read-short (cell (four .cluster) l) part behind e,
+        version-read-short (cell (four .version) l) version next f,
+        needs-fields read after g,
+        mark-short four (columns .stays) l mark last m,
+      ))
 
-  value-line-adds : Adds (rowLength columns l) t (valueLine columns l t)
+  value-line-adds : Adds size t (valueLine columns l t)
   unfolding valueLine
   value-line-adds =
-      let a = isEmpty (cell (columns .cluster) l) in
-      let b = isEmpty (cell (columns .version) l) in
-      cond-cases (Adds (rowLength columns l) t) (a && b) _ _
-      (λ h. need-line-adds (omega (arith, empty-length (cell (columns .cluster) l) (and-left a b h), empty-length (cell (columns .version) l) (and-right a b h))))
+      let a = isEmpty (cell (four .cluster) l) in
+      let b = isEmpty (cell (four .version) l) in
+      cond-cases (Adds size t) (a && b) _ _
+      (λ h. need-line-adds (omega (arith, empty-length (cell (four .cluster) l) (and-left a b h), empty-length (cell (four .version) l) (and-right a b h))))
       λ _. cluster-line-adds
 
 -- ---- the list
 
--- the bytes from a position on are those of the entries that were added
+-- the bytes from a position on are at most the room for what was added
 abbrev Read : ℕ → ℕ → Table → Option Table → Type 0
 Read long at t none = Unit {0}
-Read long at t (some u) = long + 37 * entries t ≤ at + 37 * entries u
+Read long at t (some u) = long + room t ≤ at + room u
 
-lines-read : (names : List ℕ) (columns : ClusterColumns) → Placed 4 names clusterNames (clusterPlaces columns)
-    → (steps : ℕ) (s : List ℕ) (at : ℕ) (t : Table) → Read (length s) at t (valueLines steps columns s at t)
-unfolding valueLines
-lines-read names columns placed zero s at t =
-    cond-cases (Read (length s) at t) (leb (length s) at) _ _ (λ h. omega (arith, leb-true (length s) at h)) (λ _. tt)
-lines-read names columns placed (suc steps) s at t =
-    let ih : (next : ℕ) (u : Table) → Read (length s) next u (valueLines steps columns s next u) = lines-read names columns placed steps s in
-    cond-cases (Read (length s) at t) (leb (length s) at) _ _ (λ h. omega (arith, leb-true (length s) at h)) λ _.
-    then-cases-line (Read (length s) at t) none (lineFrom 3 at (drop at s)) _ tt λ next e.
-    then-cases-some (Read (length s) at t) none (valueLine columns (drop at s) t) _ tt λ u f.
-    further at (next .at) t u (valueLines steps columns s (next .at) u)
-    (let w : Adds (rowLength columns (drop at s)) t (some u) = subst (Adds (rowLength columns (drop at s)) t) f (value-line-adds columns (drop at s) t) in
-    omega (arith, row-bytes names columns placed (drop at s) at next e))
-    (ih (next .at) u)
-  where
-    further : (at next : ℕ) (t u : Table) (o : Option Table) → next + 37 * entries t ≤ at + 37 * entries u → Read (length s) next u o → Read (length s) at t o
-    further at next t u none h w = tt
-    further at next t u (some v) h w = omega arith
+-- the columns are those of a names line, which ends at `end`
+module _ (names : List ℕ) (columns : ListColumns) (end : Cursor) (placed : ListPlaced names columns end) where
+  lines-read : (steps : ℕ) (s : List ℕ) (at : ℕ) (t : Table) → Read (length s) at t (valueLines steps columns s at t)
+  unfolding valueLines
+  lines-read zero s at t =
+      cond-cases (Read (length s) at t) (leb (length s) at) _ _ (λ h. omega (arith, leb-true (length s) at h)) (λ _. tt)
+  lines-read (suc steps) s at t =
+      let ih : (next : ℕ) (u : Table) → Read (length s) next u (valueLines steps columns s next u) = lines-read steps s in
+      let size = rowLength (columns .«cluster_columns») (columns .stays) (drop at s) in
+      cond-cases (Read (length s) at t) (leb (length s) at) _ _ (λ h. omega (arith, leb-true (length s) at h)) λ _.
+      then-cases-line (Read (length s) at t) none (lineFrom (commasOf (columns .stays)) at (drop at s)) _ tt λ next e.
+      then-cases-some (Read (length s) at t) none (valueLine columns (drop at s) t) _ tt λ u f.
+      further at (next .at) t u (valueLines steps columns s (next .at) u)
+      (let w : Adds size t (some u) = subst (Adds size t) f (value-line-adds columns (drop at s) t) in
+      omega (arith, row-bytes names columns end placed (drop at s) at next e))
+      (ih (next .at) u)
+    where
+      further : (at next : ℕ) (t u : Table) (o : Option Table) → next + room t ≤ at + room u → Read (length s) next u o → Read (length s) at t o
+      further at next t u none h w = tt
+      further at next t u (some v) h w = omega arith
 
-entries-most : (last : ℕ) (t : Table) → risingAbove last t ≡ true → entries t ≤ 5 * length t
-unfolding entries
-entries-most last [] h = omega arith
-entries-most last (c ∷ t) h =
+room-most : (last : ℕ) (t : Table) → risingAbove last t ≡ true → room t ≤ 191 * length t
+unfolding room
+room-most last [] h = omega arith
+room-most last (c ∷ t) h =
     let r = rising-says last c t h in
-    omega (arith, leb-true (length (c .needs)) needsMost (cluster-few-needs c (r .within)), entries-most (c .part) t (r .rest))
+    omega (arith, leb-true (length (c .needs)) needsMost (cluster-few-needs c (r .within)), room-most (c .part) t (r .rest))
 
--- the names have 24 bytes, in whichever order they stand
-names-bytes : (s : List ℕ) {columns : ClusterColumns} → Placed 4 s clusterNames (clusterPlaces columns) → rowLength columns s ≡ 24
-names-bytes s (more c (more v (more n (more l nowhere)))) =
-    rw (column-cell 4 _ _ s c, column-cell 4 _ _ s v, column-cell 4 _ _ s n, column-cell 4 _ _ s l)
-
--- so the names line has 28
-list-read : (s : List ℕ) → Read (length s) 28 [] (readList s)
+list-read : (s : List ℕ) → Read (length s) 34 [] (readList s)
 unfolding readList
 list-read s =
-    then-cases-line (Read (length s) 28 []) none (lineFrom 3 0 s) _ tt λ next e.
-    then-cases-cluster-columns (Read (length s) 28 []) none (clusterColumns 4 s) _ tt λ columns f.
-    let placed = cluster-placed 4 s columns f in
-    let end : next .at ≡ 28 =
-    omega (
-      arith,
-      row-bytes s columns placed s 0 next e,
-      names-bytes s placed,
-    ) in
-    subst (λ (at : ℕ). Read (length s) at [] (valueLines (length s) columns s (next .at) [])) end (lines-read s columns placed (length s) s (next .at) [])
+    then-cases-list-columns (Read (length s) 34 []) none (listColumns s) _ tt λ columns next e.
+    let placed = list-placed s columns next e in
+    later (next .at) (valueLines (length s) columns s (next .at) []) (names-most s columns next placed)
+    (lines-read s columns next placed (length s) s (next .at) [])
+  where
+    later : (at : ℕ) (o : Option Table) → at ≤ 34 → Read (length s) at [] o → Read (length s) 34 [] o
+    later at none h w = tt
+    later at (some u) h w = omega arith
 
--- 28 + 37 × 5 × 64
+-- 34 + (39 + 4 × 38) × 64
 pub read-most : (s : List ℕ) (t : Table) → readList s ≡ some t → length s ≤ readListMost
+unfolding room
 read-most s t e =
-    let read : Read (length s) 28 [] (some t) = subst (Read (length s) 28 []) e (list-read s) in
+    let read : Read (length s) 34 [] (some t) = subst (Read (length s) 34 []) e (list-read s) in
     let within : tableWithin t ≡ true = readList-within s t e in
-    omega (arith, entries-most 0 t (rising-clusters t within), few-clusters t within)
+    omega (arith, room-most 0 t (rising-clusters t within), few-clusters t within)

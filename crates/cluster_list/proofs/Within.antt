@@ -3,28 +3,29 @@ use mathlib.Core.Path.{_≡_, refl, ap, subst, _∙_}
 use mathlib.Core.Bool.{true, _&&_}
 use mathlib.Core.List.{List, [], _∷_, _++_}
 use mathlib.Core.Option.{Option, none, some}
-use Prim.Native.Nat.{ℕ, zero, suc, _+_, _≤_, _<_}
+use Prim.Native.Nat.{ℕ, zero, suc, _≤_, _<_}
 use native.Mathlib.Omega.{arith}
-use lib.Dec.{leb}
+use lib.Dec.{eqb, leb}
 use lib.ListN.{length, drop, length-append}
 use borrow.Author.Tests.{leb-false, le-leb}
 use Rattle.base.proofs.Tests.{and-left, and-right, and-both, cond-cases}
 use Rattle.text.specs.Version.{wholeVersion, versionWithin}
 use Rattle.text.proofs.ThenLaws.{then-cases, then-cases-version}
 use Rattle.text.proofs.Meaning.{whole-version-limits}
-use Rattle.rows.specs.declared.columns.ClusterColumns.{ClusterColumns}
+use Rattle.rows.specs.declared.list_columns.ListColumns.{ListColumns}
 use Rattle.rows.specs.Field.{cell, isEmpty}
 use Rattle.rows.specs.Line.{lineFrom}
-use Rattle.rows.specs.Columns.{clusterColumns}
-use Rattle.rows.proofs.ThenLaws.{then-cases-line, then-cases-cluster-columns}
+use Rattle.rows.specs.ListColumns.{listColumns}
+use Rattle.rows.proofs.ThenLaws.{then-cases-line, then-cases-list-columns}
 use Rattle.clusters.specs.declared.cluster.Need.{Need}
-use Rattle.clusters.specs.Cluster.{Cluster, cluster, withNeed, partWithin, needWithin, needsWithin, needsMost, clusterWithin}
+use Rattle.clusters.specs.Cluster.{Cluster, markedCluster, withNeed, partWithin, needWithin, needsWithin, needsMost, clusterWithin}
 use Rattle.clusters.specs.Table.{Table, risingAbove, tableWithin, clustersMost}
 use Rattle.clusters.proofs.Limits.{rising-says, rising-is, few-clusters, rising-clusters, table-is-within}
 use Rattle.clusters.specs.View.{viewTable}
 use Rattle.clusters.proofs.Structs.{view-struct}
 use Rattle.cluster_list.specs.declared.read.ListRead.{ListRead}
 use Rattle.cluster_list.specs.Cells.{partField, needFields, needsFilled}
+use Rattle.cluster_list.specs.Mark.{commasOf, markField, noMark}
 use Rattle.cluster_list.specs.Read.{andThenSome, lastPart, clusterAdded, needAdded, needLine, clusterBegun, clusterLine, valueLine, valueLines, readList, listRead, tableRead}
 use Rattle.cluster_list.proofs.ThenLaws.{then-cases-need, then-cases-filled}
 use Rattle.cluster_list.proofs.FirstNeed.{few-filled}
@@ -80,10 +81,14 @@ rising-joined last (d ∷ t) c h l m k =
 
 -- ---- what each line gives
 
--- the table, where there is one, is within the limits
+-- the table, where there is one, is such
+abbrev pub Such : (Table → Type 0) → Option Table → Type 0
+Such P none = Unit {0}
+Such P (some t) = P t
+
+-- it is within the limits
 abbrev pub Within : Option Table → Type 0
-Within none = Unit {0}
-Within (some t) = tableWithin t ≡ true
+Within = Such λ t. tableWithin t ≡ true
 
 cluster-added-within : (t : Table) (c : Cluster) → tableWithin t ≡ true → clusterWithin c ≡ true → Within (clusterAdded t c)
 unfolding clusterAdded
@@ -121,49 +126,56 @@ need-added-within t n h k = go (needAdded t n) (need-added-rises 0 t n (rising-c
     go none w = tt
     go (some u) w = table-is-within u (rw (w .1) (few-clusters t h)) (w .0)
 
-module _ (columns : ClusterColumns) (l : List ℕ) (t : Table) (h : tableWithin t ≡ true) where
+module _ (columns : ListColumns) (l : List ℕ) (t : Table) (h : tableWithin t ≡ true) where
   need-line-within : Within (needLine columns l t)
   unfolding needLine
   need-line-within =
-      then-cases-need Within none (needFields columns l) _ tt λ need next e.
+      cond-cases Within (noMark (columns .stays) l) _ _
+      (λ b. then-cases-need Within none (needFields (columns .«cluster_columns») l) _ tt λ need next e.
       then-cases-filled Within none need _ tt λ n f.
-      need-added-within t n h (need-read-within (cell (columns .needs) l) (cell (columns .least) l) need next e n f)
+      need-added-within t n h (need-read-within (cell (columns .«cluster_columns» .needs) l) (cell (columns .«cluster_columns» .least) l) need next e n f))
+      λ b. tt
 
   cluster-line-within : Within (clusterLine columns l t)
   unfolding clusterLine clusterBegun
   cluster-line-within =
-      then-cases Within none (partField (cell (columns .cluster) l)) _ tt λ part behind e.
-      then-cases-version Within none (wholeVersion (cell (columns .version) l)) _ tt λ version next f.
-      let part-fine = part-read-within (cell (columns .cluster) l) part behind e in
-      let version-fine = whole-version-limits (cell (columns .version) l) version next _ refl f in
-      then-cases-need Within none (needFields columns l) _ tt λ need after g.
+      let part-cell = cell (columns .«cluster_columns» .cluster) l in
+      let version-cell = cell (columns .«cluster_columns» .version) l in
+      then-cases Within none (partField part-cell) _ tt λ part behind e.
+      then-cases-version Within none (wholeVersion version-cell) _ tt λ version next f.
+      let part-fine = part-read-within part-cell part behind e in
+      let version-fine = whole-version-limits version-cell version next _ refl f in
+      then-cases-need Within none (needFields (columns .«cluster_columns») l) _ tt λ need after g.
+      then-cases Within none (markField (columns .stays) l) _ tt λ mark last i.
       cluster-added-within t _ h
-      (cluster-is-within (cluster part version (needsFilled need)) part-fine version-fine (omega (arith, few-filled need))
-      (needs-read-within (cell (columns .needs) l) (cell (columns .least) l) need after g))
+      (cluster-is-within (markedCluster part version (needsFilled need) (eqb mark 1)) part-fine version-fine (omega (arith, few-filled need))
+      (needs-read-within (cell (columns .«cluster_columns» .needs) l) (cell (columns .«cluster_columns» .least) l) need after g))
 
   pub value-line-within : Within (valueLine columns l t)
   unfolding valueLine
   value-line-within =
-      cond-cases Within (isEmpty (cell (columns .cluster) l) && isEmpty (cell (columns .version) l)) _ _ (λ b. need-line-within) λ b. cluster-line-within
+      cond-cases Within (isEmpty (cell (columns .«cluster_columns» .cluster) l) && isEmpty (cell (columns .«cluster_columns» .version) l)) _ _
+      (λ b. need-line-within) λ b. cluster-line-within
 
 -- ---- all lines
 
-value-lines-within : (steps : ℕ) (columns : ClusterColumns) (s : List ℕ) (at : ℕ) (t : Table) → tableWithin t ≡ true → Within (valueLines steps columns s at t)
-unfolding valueLines
-value-lines-within zero columns s at t h = cond-cases Within (leb (length s) at) _ _ (λ b. h) λ b. tt
-value-lines-within (suc steps) columns s at t h =
-    let ih : (next : ℕ) (u : Table) → tableWithin u ≡ true → Within (valueLines steps columns s next u) = value-lines-within steps columns s in
-    cond-cases Within (leb (length s) at) _ _ (λ b. h) λ b.
-    then-cases-line Within none (lineFrom 3 at (drop at s)) _ tt λ next e.
-    then-cases-some Within none (valueLine columns (drop at s) t) _ tt λ u f.
-    ih (next .at) u (subst Within f (value-line-within columns (drop at s) t h))
+-- what each value line keeps holds of the table of all lines
+module _ (P : Table → Type 0) (columns : ListColumns) (keeps : (l : List ℕ) (t : Table) → P t → Such P (valueLine columns l t)) where
+  pub lines-keep : (steps : ℕ) (s : List ℕ) (at : ℕ) (t : Table) → P t → Such P (valueLines steps columns s at t)
+  unfolding valueLines
+  lines-keep zero s at t h = cond-cases (Such P) (leb (length s) at) _ _ (λ b. h) λ b. tt
+  lines-keep (suc steps) s at t h =
+      let ih : (next : ℕ) (u : Table) → P u → Such P (valueLines steps columns s next u) = lines-keep steps s in
+      cond-cases (Such P) (leb (length s) at) _ _ (λ b. h) λ b.
+      then-cases-line (Such P) none (lineFrom (commasOf (columns .stays)) at (drop at s)) _ tt λ next e.
+      then-cases-some (Such P) none (valueLine columns (drop at s) t) _ tt λ u f.
+      ih (next .at) u (subst (Such P) f (keeps (drop at s) t h))
 
 list-within : (s : List ℕ) → Within (readList s)
 unfolding readList
 list-within s =
-    then-cases-line Within none (lineFrom 3 0 s) _ tt λ next e.
-    then-cases-cluster-columns Within none (clusterColumns 4 s) _ tt λ columns f.
-    value-lines-within (length s) columns s (next .at) [] (unfold tableWithin risingAbove in refl)
+    then-cases-list-columns Within none (listColumns s) _ tt λ columns next e.
+    lines-keep (λ t. tableWithin t ≡ true) columns (value-line-within columns) (length s) s (next .at) [] (unfold tableWithin risingAbove in refl)
 
 -- a table that was read is within the limits
 pub readList-within : (s : List ℕ) (t : Table) → readList s ≡ some t → tableWithin t ≡ true

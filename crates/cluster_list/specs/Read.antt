@@ -1,29 +1,29 @@
--- "List format": a text read into a table; none where it is ill-formed.
+-- "List format", with the fifth name of A.2: a text read into a table; none where it is ill-formed.
 use Prim.Native.Nat.{ℕ, zero, suc}
 use mathlib.Core.Path.{_≡_}
 use mathlib.Core.Bool.{true, cond, _&&_}
 use mathlib.Core.List.{List, [], _∷_, _++_}
 use mathlib.Core.Option.{Option, none, some}
-use lib.Dec.{leb}
+use lib.Dec.{eqb, leb}
 use lib.ListN.{length, drop}
 use Rattle.text.specs.declared.version.Version.{Version}
 use Rattle.text.specs.Version.{wholeVersion}
 use Rattle.text.specs.Then.{andThen, andThenVersion}
-use Rattle.rows.specs.declared.columns.ClusterColumns.{ClusterColumns}
+use Rattle.rows.specs.declared.list_columns.ListColumns.{ListColumns}
 use Rattle.rows.specs.Field.{cell, isEmpty}
 use Rattle.rows.specs.Line.{lineFrom, andThenLine}
-use Rattle.rows.specs.Columns.{clusterColumns, andThenClusterColumns}
+use Rattle.rows.specs.ListColumns.{listColumns, andThenListColumns}
 use Rattle.clusters.specs.declared.cluster.Need.{Need}
-use Rattle.clusters.specs.Cluster.{Cluster, cluster, withNeed, needsMost}
+use Rattle.clusters.specs.Cluster.{Cluster, markedCluster, withNeed, needsMost}
 use Rattle.clusters.specs.Table.{Table, clustersMost, tableWithin}
 use Rattle.clusters.specs.declared.table.Table.{Table as TableStruct}
 use Rattle.clusters.specs.View.{viewTable}
 use Rattle.clusters.specs.Struct.{structTable}
-use Rattle.cluster_list.specs.declared.cells.OptionalNeed.{OptionalNeed}
 use Rattle.cluster_list.specs.declared.read.ListRead.{ListRead}
 use Rattle.cluster_list.specs.declared.read.ListAnswer.{ListAnswer}
 use Rattle.cluster_list.specs.declared.read.ListAnswer.the-variants.{WellFormed, IllFormed}
 use Rattle.cluster_list.specs.Cells.{partField, needFields, andThenNeed, andThenFilled, needsFilled}
+use Rattle.cluster_list.specs.Mark.{commasOf, markField, noMark}
 
 -- goes on with what was read so far
 abbrev pub andThenSome : {A R : Type 0} → R → Option A → (A → R) → R
@@ -46,50 +46,57 @@ needAdded [] n = none
 needAdded (c ∷ []) n = cond (leb needsMost (length (c .needs))) none (some (withNeed c n ∷ []))
 needAdded (c ∷ (d ∷ t)) n = andThenSome none (needAdded (d ∷ t) n) λ u. some (c ∷ u)
 
--- "A line with cluster and version empty adds a need to the cluster above it, with needs and least filled."
-unfoldable pub needLine : ClusterColumns → List ℕ → Table → Option Table
+-- "A line with cluster and version empty adds a need to the cluster above it, with needs and least filled." A.2: "A need line leaves it
+-- empty", the mark
+unfoldable pub needLine : ListColumns → List ℕ → Table → Option Table
 needLine columns l t =
-    andThenNeed none (needFields columns l) λ need _.
+    cond (noMark (columns .stays) l)
+    (andThenNeed none (needFields (columns .«cluster_columns») l) λ need _.
     andThenFilled none need λ n.
-    needAdded t n
+    needAdded t n)
+    none
 
--- the cluster that a line begins has no need or the one filled in
-unfoldable pub clusterBegun : Table → ℕ → Version → OptionalNeed → Option Table
-clusterBegun t part version need = clusterAdded t (cluster part version (needsFilled need))
+-- "A line that begins a cluster has both of these filled or both empty", needs and least: the cluster has no need or the one filled in,
+-- and the mark of the line
+unfoldable pub clusterBegun : ListColumns → List ℕ → Table → ℕ → Version → Option Table
+clusterBegun columns l t part version =
+    andThenNeed none (needFields (columns .«cluster_columns») l) λ need _.
+    andThen none (markField (columns .stays) l) λ mark _.
+    clusterAdded t (markedCluster part version (needsFilled need) (eqb mark 1))
 
--- "A line that begins a cluster has both of these filled or both empty."
-unfoldable pub clusterLine : ClusterColumns → List ℕ → Table → Option Table
+-- the line's part number and version, and the cluster that it begins
+unfoldable pub clusterLine : ListColumns → List ℕ → Table → Option Table
 clusterLine columns l t =
-    andThen none (partField (cell (columns .cluster) l)) λ part _.
-    andThenVersion none (wholeVersion (cell (columns .version) l)) λ version _.
-    andThenNeed none (needFields columns l) λ need _.
-    clusterBegun t part version need
+    andThen none (partField (cell (columns .«cluster_columns» .cluster) l)) λ part _.
+    andThenVersion none (wholeVersion (cell (columns .«cluster_columns» .version) l)) λ version _.
+    clusterBegun columns l t part version
 
 -- the value line that a text begins with
-unfoldable pub valueLine : ClusterColumns → List ℕ → Table → Option Table
+unfoldable pub valueLine : ListColumns → List ℕ → Table → Option Table
 valueLine columns l t =
-    cond (isEmpty (cell (columns .cluster) l) && isEmpty (cell (columns .version) l)) (needLine columns l t) (clusterLine columns l t)
+    cond (isEmpty (cell (columns .«cluster_columns» .cluster) l) && isEmpty (cell (columns .«cluster_columns» .version) l))
+    (needLine columns l t) (clusterLine columns l t)
 
 -- the value lines of s from a position to the end, after those read into t. A line has at least one byte, its LF, so as many
 -- steps as s has bytes are enough
-unfoldable pub valueLines : ℕ → ClusterColumns → List ℕ → ℕ → Table → Option Table
+unfoldable pub valueLines : ℕ → ListColumns → List ℕ → ℕ → Table → Option Table
 valueLines zero columns s at t = cond (leb (length s) at) (some t) none
 valueLines (suc steps) columns s at t =
     cond (leb (length s) at) (some t)
-    (andThenLine none (lineFrom 3 at (drop at s)) λ next.
+    (andThenLine none (lineFrom (commasOf (columns .stays)) at (drop at s)) λ next.
     andThenSome none (valueLine columns (drop at s) t) λ u.
     valueLines steps columns s next u)
 
 -- "a line of names, then lines of values in that order"; "No value lines is the empty table."
 unfoldable pub readList : List ℕ → Option Table
 readList s =
-    andThenLine none (lineFrom 3 0 s) λ next.
-    andThenClusterColumns none (clusterColumns 4 s) λ columns.
+    andThenListColumns none (listColumns s) λ columns next.
     valueLines (length s) columns s next []
 
--- how many bytes the longest list has that can be read: the names line of 28, and 64 clusters of five lines of 37 (proofs/Longest.antt)
+-- how many bytes the longest list has that can be read: the names line of 34, and 64 clusters of a line of 39 and four of 38
+-- (proofs/Longest.antt)
 abbrev pub readListMost : ℕ
-readListMost = 11868
+readListMost = 12258
 
 -- what each case of the reader's answer says: the table beside it, or ill-formed
 abbrev pub answered : ListAnswer → TableStruct → Option Table

@@ -2,27 +2,34 @@
 ghost use mathlib.Core.Path.{_≡_};
 ghost use mathlib.Core.List.{[]};
 ghost use mathlib.Core.Option.{none};
+ghost use lib.Dec.{eqb};
 ghost use lib.ListN.{length, drop};
+ghost use Rattle.clusters.specs.Cluster.{markedCluster};
 ghost use Rattle.clusters.specs.View.{viewCluster, viewTable};
 ghost use Rattle.clusters.specs.Struct.{structCluster};
+ghost use Rattle.cluster_list.specs.Cells.{needsFilled};
 ghost use Rattle.cluster_list.specs.Read.{lastPart, clusterAdded, needAdded, needLine, clusterBegun, clusterLine, valueLine, valueLines, readList, tableRead, listRead, Built};
 use crate::cells::NeedRead;
 use crate::cells::OptionalNeed;
 use crate::cells::cluster_with;
 use crate::cells::need_fields;
 use crate::cells::part_field;
+use crate::mark::commas_of;
+use crate::mark::mark_field;
+use crate::mark::no_mark;
 use clusters::cluster::Cluster;
 use clusters::cluster::NEEDS_MOST;
 use clusters::cluster::Need;
+use clusters::cluster::with_mark;
 use clusters::table::CLUSTERS_MOST;
 use clusters::table::Table;
 use clusters::table::append;
 use clusters::table::empty_table;
 use clusters::table::with_need_at_last;
-use rows::columns::ClusterColumns;
-use rows::columns::ClusterColumnsRead;
-use rows::columns::cluster_columns;
 use rows::line::Line;
+use rows::list_columns::ListColumns;
+use rows::list_columns::ListColumnsRead;
+use rows::list_columns::list_columns;
 use rows::reader::cell_at;
 use rows::reader::line_at;
 use text::cursor::Cursor;
@@ -104,12 +111,16 @@ fn add_need(table: Table, n: Need) -> ListRead
     }
 }
 
-// A line with cluster and version empty: a need of the cluster above it.
-fn need_line(s: &[u8], line: Cursor, columns: ClusterColumns, table: Table) -> ListRead
+// A line with cluster and version empty: a need of the cluster above it, and no mark.
+fn need_line(s: &[u8], line: Cursor, columns: ListColumns, table: Table) -> ListRead
     requires { ⌜ Built table ⌝ }
     ensures { λ r. ⌜ r ≡ listRead (needLine columns (drop (line .at) (now (s .entry))) (viewTable table)) ⌝ }
 {
-    let NeedRead::Value(need, _) = need_fields(s, line, columns) else {
+    let stays = columns.stays;
+    if !no_mark(s, line, stays) {
+        return ill_formed();
+    }
+    let NeedRead::Value(need, _) = need_fields(s, line, columns.cluster_columns) else {
         return ill_formed();
     };
     let OptionalNeed::Filled(further) = need else {
@@ -118,54 +129,77 @@ fn need_line(s: &[u8], line: Cursor, columns: ClusterColumns, table: Table) -> L
     add_need(table, further)
 }
 
-// A cluster with its first need or without one.
-fn begin_cluster(table: Table, part: u32, version: Version, need: OptionalNeed) -> ListRead
-    requires { ⌜ Built table ⌝ }
-    ensures { λ r. ⌜ r ≡ listRead (clusterBegun (viewTable table) part version need) ⌝ }
+// The cluster of a line's fields, with its unused places cleared.
+fn marked_cluster(part: u32, version: Version, need: OptionalNeed, mark: u32) -> Cluster
+    ensures { λ r. ⌜ r ≡ structCluster (markedCluster part version (needsFilled need) (eqb mark 1)) ⌝ }
 {
-    add_cluster(table, cluster_with(part, version, need))
+    let begun = cluster_with(part, version, need);
+    with_mark(begun, mark == 1)
 }
 
-// A line that begins a cluster.
-fn cluster_line(s: &[u8], line: Cursor, columns: ClusterColumns, table: Table) -> ListRead
+// The cluster that a line begins, with its first need or without one, and with the mark of the line.
+fn begin_cluster(
+    s: &[u8],
+    line: Cursor,
+    columns: ListColumns,
+    table: Table,
+    part: u32,
+    version: Version,
+) -> ListRead
+    requires { ⌜ Built table ⌝ }
+    ensures { λ r. ⌜ r ≡ listRead (clusterBegun columns (drop (line .at) (now (s .entry))) (viewTable table) part version) ⌝ }
+{
+    let NeedRead::Value(need, _) = need_fields(s, line, columns.cluster_columns) else {
+        return ill_formed();
+    };
+    let stays = columns.stays;
+    let Number::Value(mark, _) = mark_field(s, line, stays) else {
+        return ill_formed();
+    };
+    add_cluster(table, marked_cluster(part, version, need, mark))
+}
+
+// A line that begins a cluster: its part number and version, and then what begin_cluster reads of it.
+fn cluster_line(s: &[u8], line: Cursor, columns: ListColumns, table: Table) -> ListRead
     requires { ⌜ Built table ⌝ }
     ensures { λ r. ⌜ r ≡ listRead (clusterLine columns (drop (line .at) (now (s .entry))) (viewTable table)) ⌝ }
 {
-    let Number::Value(part, _) = part_field(cell_at(s, line, columns.cluster)) else {
+    let shared = columns.cluster_columns;
+    let Number::Value(part, _) = part_field(cell_at(s, line, shared.cluster)) else {
         return ill_formed();
     };
-    let VersionRead::Value(version, _) = whole_version(cell_at(s, line, columns.version)) else {
+    let VersionRead::Value(version, _) = whole_version(cell_at(s, line, shared.version)) else {
         return ill_formed();
     };
-    let NeedRead::Value(need, _) = need_fields(s, line, columns) else {
-        return ill_formed();
-    };
-    begin_cluster(table, part, version, need)
+    begin_cluster(s, line, columns, table, part, version)
 }
 
 // The value line at a cursor.
-fn value_line(s: &[u8], line: Cursor, columns: ClusterColumns, table: Table) -> ListRead
+fn value_line(s: &[u8], line: Cursor, columns: ListColumns, table: Table) -> ListRead
     requires { ⌜ Built table ⌝ }
     ensures { λ r. ⌜ r ≡ listRead (valueLine columns (drop (line .at) (now (s .entry))) (viewTable table)) ⌝ }
 {
-    if 1 <= cell_at(s, line, columns.cluster).len() {
+    let shared = columns.cluster_columns;
+    if 1 <= cell_at(s, line, shared.cluster).len() {
         return cluster_line(s, line, columns, table);
     }
-    if 1 <= cell_at(s, line, columns.version).len() {
+    if 1 <= cell_at(s, line, shared.version).len() {
         return cluster_line(s, line, columns, table);
     }
     need_line(s, line, columns, table)
 }
 
 // The value lines from a cursor to the end.
-fn value_lines(s: &[u8], from: Cursor, columns: ClusterColumns) -> ListRead
+fn value_lines(s: &[u8], from: Cursor, columns: ListColumns) -> ListRead
     ensures { λ r. ⌜ r ≡ listRead (valueLines (length (now (s .entry))) columns (now (s .entry)) (from .at) []) ⌝ }
 {
+    let stays = columns.stays;
+    let commas = commas_of(stays);
     let mut table = empty_table();
     let mut at = from.at;
     while at < s.len() {
         let line = Cursor { at };
-        let Line::Ends(next) = line_at(s, line, 3) else {
+        let Line::Ends(next) = line_at(s, line, commas) else {
             return ill_formed();
         };
         let read = value_line(s, line, columns, table);
@@ -186,11 +220,7 @@ fn value_lines(s: &[u8], from: Cursor, columns: ClusterColumns) -> ListRead
 fn list_at_start(s: &[u8]) -> ListRead
     ensures { λ r. ⌜ r ≡ listRead (readList (now (s .entry))) ⌝ }
 {
-    let names = Cursor { at: 0 };
-    let Line::Ends(next) = line_at(s, names, 3) else {
-        return ill_formed();
-    };
-    let ClusterColumnsRead::Named(columns) = cluster_columns(s, names, 4) else {
+    let ListColumnsRead::Named(columns, next) = list_columns(s) else {
         return ill_formed();
     };
     value_lines(s, next, columns)

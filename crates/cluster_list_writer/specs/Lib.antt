@@ -1,1 +1,1 @@
-pub mod Pair
+pub mod Fields

@@ -4,20 +4,20 @@ ghost use mathlib.Core.Bool.{true};
 ghost use mathlib.Core.List.{[], _∷_};
 ghost use Prim.Native.Nat.{_≤_};
 ghost use lib.ListN.{length, drop};
-ghost use Rattle.rows.specs.Line.{lineText};
 ghost use Rattle.clusters.specs.Cluster.{clusterWithin};
 ghost use Rattle.clusters.specs.Table.{tableWithin};
 ghost use Rattle.clusters.specs.View.{viewCluster, viewTable};
-ghost use Rattle.cluster_list.specs.Write.{needCells, needLinesText, clusterLines, writeList};
+ghost use Rattle.cluster_list.specs.Write.{fiveNames, needCells, needLinesText, clusterLines, writeList};
+ghost use Rattle.cluster_list_writer.specs.Fields.{fieldsText};
 use clusters::cluster::Cluster;
 use clusters::cluster::Need;
 use clusters::table::Table;
 use text::write::number_length;
 use text::write::version_length;
 
-// The fields needs and least of a need, with the comma between them and the LF.
+// The fields needs and least of a need, a comma behind each.
 fn need_length(n: Need) -> usize
-    ensures { λ r. ⌜ r ≡ length (lineText (needCells (n ∷ []))) ⌝ }
+    ensures { λ r. ⌜ r ≡ length (fieldsText (needCells (n ∷ []))) ⌝ }
 {
     number_length(n.part) + version_length(n.least) + 2
 }
@@ -26,7 +26,7 @@ fn need_length(n: Need) -> usize
 // a cluster.
 fn first_need_length(c: Cluster) -> usize
     requires { ⌜ c .«need_count» ≤ 4 ⌝ }
-    ensures { λ r. ⌜ r ≡ length (lineText (needCells (viewCluster c .needs))) ⌝ }
+    ensures { λ r. ⌜ r ≡ length (fieldsText (needCells (viewCluster c .needs))) ⌝ }
 {
     if c.need_count < 1 {
         return 2;
@@ -35,30 +35,30 @@ fn first_need_length(c: Cluster) -> usize
     need_length(n)
 }
 
-// The lines of the needs behind the first, each with two empty fields in front.
+// The lines of the needs behind the first, each with two empty fields in front, and LF behind the empty mark.
 fn need_lines_length(c: Cluster) -> usize
     requires { ⌜ clusterWithin (viewCluster c) ≡ true ⌝ }
-    ensures { λ r. ⌜ r ≡ length (needLinesText (drop 1 (viewCluster c .needs))) ⌝ }
+    ensures { λ r. ⌜ r ≡ length (needLinesText fiveNames (drop 1 (viewCluster c .needs))) ⌝ }
 {
     let count = c.need_count;
     let mut total: usize = 0;
     let mut i = 1;
     while i < count {
         let n = c.needs[i];
-        total += need_length(n) + 2;
+        total += need_length(n) + 3;
         i += 1;
     }
     total
 }
 
-// The lines of a cluster.
+// The lines of a cluster. Its part number and its version have a comma behind each, and its mark is one byte with LF behind it.
 fn cluster_length(c: Cluster) -> usize
     requires { ⌜ clusterWithin (viewCluster c) ≡ true ⌝ }
-    ensures { λ r. ⌜ r ≡ length (clusterLines (viewCluster c)) ⌝ }
+    ensures { λ r. ⌜ r ≡ length (clusterLines fiveNames (viewCluster c)) ⌝ }
 {
     number_length(c.part)
         + version_length(c.version)
-        + 2
+        + 4
         + first_need_length(c)
         + need_lines_length(c)
 }
@@ -69,7 +69,7 @@ pub fn list_length(t: Table) -> usize
     ensures { λ r. ⌜ r ≡ length (writeList (viewTable t)) ⌝ }
 {
     let count = t.count;
-    let mut total: usize = 28;
+    let mut total: usize = 34;
     let mut i = 0;
     while i < count {
         let c = t.clusters[i];

@@ -6,15 +6,15 @@ ghost use lib.ListN.{length};
 ghost use Rattle.text.specs.Put.{Put};
 ghost use Rattle.clusters.specs.Table.{tableWithin};
 ghost use Rattle.clusters.specs.View.{viewTable};
-ghost use Rattle.cluster_list.specs.Write.{clustersText, writeList};
+ghost use Rattle.cluster_list.specs.Write.{fiveNames, clustersText, writeList};
 use crate::put::put_cluster;
 use clusters::table::Table;
 use text::write::put_bytes;
 
 // The lines of the clusters.
 fn put_clusters(buf: &mut [u8], from: usize, t: Table) -> usize
-    requires { ⌜ (tableWithin (viewTable t) ≡ true) × (from + length (clustersText (viewTable t)) ≤ length (now buf)) ⌝ }
-    ensures { λ r. ⌜ Put (now (buf .entry)) from (clustersText (viewTable t)) r (now (buf .exit)) ⌝ }
+    requires { ⌜ (tableWithin (viewTable t) ≡ true) × (from + length (clustersText fiveNames (viewTable t)) ≤ length (now buf)) ⌝ }
+    ensures { λ r. ⌜ Put (now (buf .entry)) from (clustersText fiveNames (viewTable t)) r (now (buf .exit)) ⌝ }
 {
     let count = t.count;
     let mut at = from;
@@ -33,6 +33,6 @@ pub fn write_list(buf: &mut [u8], t: Table) -> usize
     requires { ⌜ (tableWithin (viewTable t) ≡ true) × (length (writeList (viewTable t)) ≤ length (now buf)) ⌝ }
     ensures { λ r. ⌜ Put (now (buf .entry)) 0 (writeList (viewTable t)) r (now (buf .exit)) ⌝ }
 {
-    let behind_names = put_bytes(buf, 0, b"cluster,version,needs,least\n");
+    let behind_names = put_bytes(buf, 0, b"cluster,version,needs,least,stays\n");
     put_clusters(buf, behind_names, t)
 }

@@ -1,15 +1,16 @@
 -- The rules of the definitions by computation, each at its limits from both sides: a table of cases for each. Assumes nothing.
 use Prim.Native.Nat.{ℕ, zero, suc, _+_}
-use mathlib.Core.Path.{refl}
-use mathlib.Core.Bool.{Bool, true, false}
+use mathlib.Core.Path.{_≡_, refl, ap}
+use mathlib.Core.Bool.{Bool, true, false, true≢false}
 use mathlib.Core.List.{List, [], _∷_}
 use mathlib.Core.Option.{Option, none, some}
-use lib.ListN.{replicate}
+use lib.ListN.{getD, replicate}
 use Rattle.text.specs.declared.version.Version.{Version}
 use Rattle.text.specs.Version.{version, versionWithin}
 use Rattle.clusters.specs.declared.cluster.Need.{Need}
 use Rattle.clusters.specs.Version.{above, atOrAbove}
-use Rattle.clusters.specs.Cluster.{Cluster, cluster, need, partWithin, needWithin, needsWithin, clusterWithin}
+use Rattle.clusters.specs.Cluster.{Cluster, markedCluster, cluster, need, withNeed, withMark, partWithin, needWithin, needsWithin, clusterWithin}
+use Rattle.clusters.specs.Columns.{markOf}
 use Rattle.clusters.specs.Table.{Table, find, meets, meetsAll, needsMetOf, needsMet, risingAbove, tableWithin}
 use Rattle.place_in_list.specs.declared.Found.{Found}
 use Rattle.place_in_list.specs.declared.Found.the-variants.{At, Nothing}
@@ -98,6 +99,35 @@ pub clusterLimits : AllHold clusterWithin (
     ∷ [])
 unfolding versionWithin partWithin needWithin needsWithin clusterWithin
 clusterLimits = refl
+
+-- A.2: "A cluster now has a mark, `stays`, 0 or 1": with either mark it is within its limits. A cluster made of its parts alone has 0, and a
+-- need more changes no mark
+abbrev marked : Bool → Cluster
+marked stays = markedCluster 20 highest (fineNeed ∷ []) stays
+
+pub marks : AllHold {B = Bool × Bool} (λ (c : Cluster). (markOf c, clusterWithin c)) (
+    marked true gives (true, true)
+    ∷ marked false gives (false, true)
+    ∷ cluster 20 highest (fineNeed ∷ []) gives (false, true)
+    ∷ withNeed (marked true) fineNeed gives (true, true)
+    ∷ withNeed (marked false) fineNeed gives (false, true)
+    ∷ markedCluster 0 highest [] true gives (true, false)
+    ∷ [])
+unfolding versionWithin partWithin needWithin needsWithin clusterWithin
+marks = refl
+
+-- a mark given, whichever stood there, changes nothing but the mark
+pub marksGiven : AllHold (λ (p : Bool × Bool). withMark (marked (p .0)) (p .1)) (
+    (false, true) gives marked true
+    ∷ (true, false) gives marked false
+    ∷ (true, true) gives marked true
+    ∷ (false, false) gives marked false
+    ∷ [])
+marksGiven = refl
+
+-- A.2: "Tables are equal only with equal marks"
+pub unequalMarks : marked true ∷ [] ≡ marked false ∷ [] → ⊥
+unequalMarks e = true≢false (ap (λ (t : Table). markOf (getD t 0 (marked false))) e)
 
 -- ---- tables
 

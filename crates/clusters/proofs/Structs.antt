@@ -2,7 +2,7 @@
 -- what they were made of. Assumes nothing.
 use Prim.Native.Nat.{ℕ, suc, _+_, _-_, _≤_, _<_}
 use mathlib.Core.Path.{_≡_, refl, sym, ap, ap₂, _∙_}
-use mathlib.Core.Bool.{true}
+use mathlib.Core.Bool.{Bool, true}
 use mathlib.Core.List.{List, [], _∷_, _++_, map, map-append}
 use native.Mathlib.Omega.{arith}
 use lib.ListN.{length, take, drop, getD, replicate, length-append, length-map}
@@ -13,7 +13,7 @@ use Rattle.text.specs.declared.version.Version.{Version}
 use Rattle.clusters.specs.declared.cluster.Need.{Need}
 use Rattle.clusters.specs.declared.cluster.Cluster.{Cluster as ClusterStruct}
 use Rattle.clusters.specs.declared.table.Table.{Table as TableStruct}
-use Rattle.clusters.specs.Cluster.{Cluster, cluster, withNeed, needsMost}
+use Rattle.clusters.specs.Cluster.{Cluster, cluster, markedCluster, withNeed, withMark, needsMost}
 use Rattle.clusters.specs.Table.{Table, tableWithin, risingAbove, clustersMost}
 use Rattle.clusters.specs.View.{noNeed, noCluster, viewCluster, viewTable}
 use Rattle.clusters.specs.Struct.{padded, structCluster, clearedCluster, structTable}
@@ -52,14 +52,18 @@ struct-new-cluster part version = refl
 pub struct-with-need : (c : Cluster) (n : Need) → length (c .needs) < needsMost → exact.withNeed (structCluster c) n ≡ structCluster (withNeed c n)
 unfolding exact.withNeed structCluster
 struct-with-need c n h =
-    ap₂ {C = ClusterStruct} (λ (needs : List Need) (count : ℕ). record { part = c .part; version = c .version; needs = needs; «need_count» = count })
+    ap₂ {C = ClusterStruct} (λ (needs : List Need) (count : ℕ). record { part = c .part; version = c .version; needs = needs; «need_count» = count; stays = c .stays })
     (put-behind needsMost noNeed n (c .needs) (length (c .needs)) refl h) (sym (length-one-more (c .needs) n))
 
 pub view-struct-cluster : (c : Cluster) → length (c .needs) ≤ needsMost → viewCluster (structCluster c) ≡ c
 unfolding structCluster
 view-struct-cluster c h =
-    ap (cluster (c .part) (c .version))
+    ap (λ (needs : List Need). markedCluster (c .part) (c .version) needs (c .stays))
     (counted-few needsMost (length (c .needs)) noNeed (padded needsMost noNeed (c .needs)) h ∙ seen-all needsMost noNeed (c .needs))
+
+pub struct-with-mark : (c : Cluster) (stays : Bool) → exact.withMark (structCluster c) stays ≡ structCluster (withMark c stays)
+unfolding exact.withMark structCluster
+struct-with-mark c stays = refl
 
 -- ---- tables
 

@@ -1,7 +1,7 @@
 -- The structs of specs/Exact.antt as the plain values that they stand for. Assumes nothing.
 use Prim.Native.Nat.{ℕ, suc, _+_, _-_, _≤_, _<_}
 use mathlib.Core.Path.{_≡_, refl, sym, ap, ap₂, _∙_}
-use mathlib.Core.Bool.{true}
+use mathlib.Core.Bool.{Bool, true}
 use mathlib.Core.List.{List, [], _∷_, _++_, map, map-append}
 use native.Mathlib.Omega.{arith}
 use lib.Dec.{leb}
@@ -14,7 +14,7 @@ use Rattle.text.specs.declared.version.Version.{Version}
 use Rattle.clusters.specs.declared.cluster.Need.{Need}
 use Rattle.clusters.specs.declared.cluster.Cluster.{Cluster as ClusterStruct}
 use Rattle.clusters.specs.declared.table.Table.{Table as TableStruct}
-use Rattle.clusters.specs.Cluster.{Cluster, cluster, withNeed, needsMost, clusterWithin}
+use Rattle.clusters.specs.Cluster.{Cluster, cluster, markedCluster, withNeed, withMark, needsMost, clusterWithin}
 use Rattle.clusters.specs.Table.{Table, tableWithin, risingAbove, clustersMost}
 use Rattle.clusters.specs.View.{noNeed, noCluster, viewCluster, viewTable}
 use Rattle.clusters.specs.Exact as exact
@@ -31,10 +31,14 @@ view-new-cluster part version = refl
 pub view-with-need : (c : ClusterStruct) (n : Need) → c .«need_count» < needsMost → viewCluster (exact.withNeed c n) ≡ withNeed (viewCluster c) n
 unfolding exact.withNeed
 view-with-need c n h =
-    ap (cluster (c .part) (c .version))
+    ap (λ (needs : List Need). markedCluster (c .part) (c .version) needs (c .stays))
     (counted-few needsMost (c .«need_count» + 1) noNeed (exact.putAt (c .«need_count») n (c .needs)) (omega arith)
     ∙ first-put (c .«need_count») n (c .needs)
     ∙ ap (λ (l : List Need). l ++ n ∷ []) (sym (counted-few needsMost (c .«need_count») noNeed (c .needs) (omega arith))))
+
+pub view-with-mark : (c : ClusterStruct) (stays : Bool) → viewCluster (exact.withMark c stays) ≡ withMark (viewCluster c) stays
+unfolding exact.withMark
+view-with-mark c stays = refl
 
 -- ---- tables
 

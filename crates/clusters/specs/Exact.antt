@@ -1,5 +1,6 @@
 -- The structs that the functions give, unused places included. proofs/Views.antt has what they stand for.
 use Prim.Native.Nat.{ℕ, _+_, _-_}
+use mathlib.Core.Bool.{Bool, false}
 use mathlib.Core.List.{List, _∷_, _++_}
 use lib.ListN.{take, drop, getD, replicate}
 use Rattle.text.specs.declared.version.Version.{Version}
@@ -17,13 +18,18 @@ putAt i x xs = take i xs ++ x ∷ drop (i + 1) xs
 
 -- ---- clusters
 
--- a cluster with no needs
+-- a cluster with no needs and mark 0
 unfoldable pub newCluster : ℕ → Version → Cluster
-newCluster part version = record { part = part; version = version; needs = replicate needsMost noNeed; «need_count» = 0 }
+newCluster part version = record { part = part; version = version; needs = replicate needsMost noNeed; «need_count» = 0; stays = false }
 
 -- a cluster with one need more, behind the others
 unfoldable pub withNeed : Cluster → Need → Cluster
-withNeed c n = record { part = c .part; version = c .version; needs = putAt (c .«need_count») n (c .needs); «need_count» = c .«need_count» + 1 }
+withNeed c n =
+    record { part = c .part; version = c .version; needs = putAt (c .«need_count») n (c .needs); «need_count» = c .«need_count» + 1; stays = c .stays }
+
+-- a cluster with this mark
+unfoldable pub withMark : Cluster → Bool → Cluster
+withMark c stays = record { part = c .part; version = c .version; needs = c .needs; «need_count» = c .«need_count»; stays = stays }
 
 -- ---- tables
 

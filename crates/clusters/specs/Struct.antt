@@ -1,5 +1,6 @@
 -- The struct that stands for a plain value with every unused place cleared: what the readers of text build.
 use Prim.Native.Nat.{ℕ, _-_}
+use mathlib.Core.Bool.{false}
 use mathlib.Core.List.{List, _++_, map}
 use lib.ListN.{length, replicate}
 use Rattle.clusters.specs.declared.cluster.Cluster.{Cluster as ClusterStruct}
@@ -15,11 +16,11 @@ padded most cleared elements = elements ++ replicate (most - length elements) cl
 -- a cluster's struct
 unfoldable pub structCluster : Cluster → ClusterStruct
 structCluster c =
-    record { part = c .part; version = c .version; needs = padded needsMost noNeed (c .needs); «need_count» = length (c .needs) }
+    record { part = c .part; version = c .version; needs = padded needsMost noNeed (c .needs); «need_count» = length (c .needs); stays = c .stays }
 
 -- what stands in an unused place of a table
 abbrev pub clearedCluster : ClusterStruct
-clearedCluster = record { part = 0; version = noVersion; needs = replicate needsMost noNeed; «need_count» = 0 }
+clearedCluster = record { part = 0; version = noVersion; needs = replicate needsMost noNeed; «need_count» = 0; stays = false }
 
 -- a table's struct
 unfoldable pub structTable : Table → TableStruct

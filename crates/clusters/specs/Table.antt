@@ -9,7 +9,7 @@ use Rattle.clusters.specs.declared.cluster.Need.{Need}
 use Rattle.clusters.specs.Version.{atOrAbove}
 use Rattle.clusters.specs.Cluster.{Cluster, clusterWithin}
 
--- "Two tables are equal when they have the same clusters with equal versions and needs": equal lists
+-- "Two tables are equal when they have the same clusters with equal versions and needs", A.2: "only with equal marks": equal lists
 abbrev pub Table : Type 0
 Table = List Cluster
 

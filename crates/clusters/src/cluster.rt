@@ -1,10 +1,10 @@
-// A cluster: a part number, a version and its needs in order.
+// A cluster: a part number, a version, its needs in order, and a mark.
 use text::version::NO_VERSION;
 use text::version::Version;
 ghost use mathlib.Core.Path.{_≡_};
 ghost use Prim.Native.Nat.{_<_};
 ghost use Rattle.clusters.specs.Cluster.{needsMost};
-ghost use Rattle.clusters.specs.Exact.{newCluster, withNeed};
+ghost use Rattle.clusters.specs.Exact.{newCluster, withNeed, withMark};
 
 // The most needs that a cluster has: the one place in the code that has this limit.
 pub const NEEDS_MOST: usize = 4;
@@ -15,15 +15,16 @@ pub struct Need {
     pub least: Version,
 }
 
-// The first need_count of the needs count; the places behind them are unused.
+// The first need_count of the needs count; the places behind them are unused. A cluster that stays can't be removed.
 pub struct Cluster {
     pub part: u32,
     pub version: Version,
     pub needs: [Need; NEEDS_MOST],
     pub need_count: usize,
+    pub stays: bool,
 }
 
-// A cluster with no needs and every unused place 0.
+// A cluster with no needs, mark 0 and every unused place 0.
 pub fn new_cluster(part: u32, version: Version) -> Cluster
     ensures { λ r. ⌜ r ≡ newCluster part version ⌝ }
 {
@@ -37,6 +38,7 @@ pub fn new_cluster(part: u32, version: Version) -> Cluster
         version: version,
         needs: no_needs,
         need_count: 0,
+        stays: false,
     }
 }
 
@@ -54,5 +56,21 @@ pub fn with_need(c: Cluster, n: Need) -> Cluster
         version: version,
         needs: needs,
         need_count: count + 1,
+        stays: c.stays,
+    }
+}
+
+// A cluster with this mark.
+pub fn with_mark(c: Cluster, stays: bool) -> Cluster
+    ensures { λ r. ⌜ r ≡ withMark c stays ⌝ }
+{
+    let version = c.version;
+    let needs = c.needs;
+    Cluster {
+        part: c.part,
+        version: version,
+        needs: needs,
+        need_count: c.need_count,
+        stays: stays,
     }
 }

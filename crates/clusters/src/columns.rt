@@ -1,4 +1,4 @@
-// The part numbers and versions of a table, taken out once: a search passes a column of 256 bytes and not the table.
+// The part numbers, versions and marks of a table, taken out once: a search passes a column of 256 bytes and not the table.
 use crate::table::CLUSTERS_MOST;
 use crate::table::Table;
 use place_in_list::Found;
@@ -16,6 +16,7 @@ ghost use Rattle.clusters.specs.Columns.{ColumnsOf};
 pub struct Columns {
     pub parts: [u32; CLUSTERS_MOST],
     pub versions: [Version; CLUSTERS_MOST],
+    pub marks: [bool; CLUSTERS_MOST],
     pub count: usize,
 }
 
@@ -26,6 +27,7 @@ pub fn columns_of(t: Table) -> Columns
 {
     let mut parts = [0u32; CLUSTERS_MOST];
     let mut versions = [NO_VERSION; CLUSTERS_MOST];
+    let mut marks = [false; CLUSTERS_MOST];
     let count = t.count;
     let mut i = 0;
     while i < count {
@@ -33,11 +35,13 @@ pub fn columns_of(t: Table) -> Columns
         parts[i] = c.part;
         let version = c.version;
         versions[i] = version;
+        marks[i] = c.stays;
         i += 1;
     }
     Columns {
         parts: parts,
         versions: versions,
+        marks: marks,
         count: count,
     }
 }

@@ -7,13 +7,26 @@ use cases::show;
 use cases::values::number_of;
 use cases::values::version_of;
 use cluster_list::read::read_list;
+use clusters::cluster::Cluster;
 use clusters::cluster::new_cluster;
+use clusters::cluster::with_mark;
 use clusters::table::CLUSTERS_MOST;
 use clusters::table::Table;
 use package_heading::change::ChangeRead;
 use package_heading::change::change_of;
 
-// The part number and the last part of the version of each cluster.
+// The part number and the last part of the version of a cluster, and whether it stays.
+fn show_cluster(cluster: Cluster) {
+    show::byte(b' ');
+    show::number(cluster.part);
+    show::byte(b':');
+    show::number(cluster.version.fourth);
+    if cluster.stays {
+        show::bytes(b" stays");
+    }
+}
+
+// Each cluster of a table.
 fn show_table(table: Table) {
     let count = table.count;
     let mut i = 0;
@@ -21,11 +34,7 @@ fn show_table(table: Table) {
         if CLUSTERS_MOST <= i {
             return;
         }
-        let cluster = table.clusters[i];
-        show::byte(b' ');
-        show::number(cluster.part);
-        show::byte(b':');
-        show::number(cluster.version.fourth);
+        show_cluster(table.clusters[i]);
         i += 1;
     }
     show::byte(b'\n');
@@ -44,13 +53,17 @@ fn act(table: Table, action: Action) {
     show_table(apply(table, action));
 }
 
-// An action as word, part number and version, and the list that says the table.
+// An action as word, part number and version, and the list that says the table. The mark of the action's own cluster is 1: it plays
+// no part.
 pub fn action(case: &[u8]) {
     let ChangeRead::Value(change, _) = change_of(field(case, 1)) else {
         show::ill_formed();
         return;
     };
-    let cluster = new_cluster(number_of(field(case, 2)), version_of(field(case, 3)));
+    let cluster = with_mark(
+        new_cluster(number_of(field(case, 2)), version_of(field(case, 3))),
+        true,
+    );
     let read = read_list(field(case, 4));
     act(read.table, Action { change, cluster });
 }

@@ -8,8 +8,10 @@ use mathlib.Core.List.{List, [], _∷_, _++_, List·Memᴰ}
 use mathlib.Core.Logic.{_↔_, _⊎_}
 use mathlib.Core.Option.{some}
 use lib.ListN.{length, drop, replicate}
+use Rattle.clusters.specs.Table as tables
 use Rattle.clusters.specs.Table.{Table}
 use Rattle.actions.specs.Action.{applyAll}
+use Rattle.actions.specs.Refusals.{isMarked}
 use Rattle.cluster_list.specs.Read.{readList}
 use Rattle.model.specs.State.{Package, isIdle, State, Store, actions}
 use Rattle.model.specs.Areas.{declared, free, find, areaOf}
@@ -136,6 +138,16 @@ module _ (given : State) (list : List ℕ) (first : ℕ) (lent : Store)
   no-old-call-writes calls call =
       ap (λ (r : EventRun State MixedCall MixedReply). r .store) (events-last mixedStep (loaded .state) (loaded .store) calls (ofFour call))
       ∙ writes-nothing (after calls .state) (after calls .store) call
+
+  -- ---- marks
+
+  -- A.2, "A cluster with 1 can't be removed", "Install gives 0, update keeps it": a cluster is marked in the running table exactly when it is
+  -- marked in the loaded one
+  pub marked-stay : (calls : List MixedCall) (part : ℕ)
+      → isMarked (tables.find part (running (after calls .state))) ≡ isMarked (tables.find part (tableOrEmpty (readList list)))
+  marked-stay calls part =
+      claims-carry-over (λ (r : Run). isMarked (tables.find part (running (r .state))) ≡ isMarked (tables.find part (tableOrEmpty (readList list))))
+      (λ twelves. twelve.marked-stay given list first lent is-accepted twelves part) calls
 
   -- ---- the running table
 

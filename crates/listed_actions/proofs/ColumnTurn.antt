@@ -21,7 +21,6 @@ use Rattle.clusters.specs.View.{viewCluster}
 use Rattle.clusters.specs.Place.{placeAmong}
 use Rattle.clusters.specs.Columns.{ColumnsOf}
 use Rattle.clusters.proofs.ColumnLaws.{place-below, none-among, found-among}
-use Rattle.actions.specs.declared.refusals.Staged.the-variants as staged
 use Rattle.actions.specs.Action.{Action, install, update, remove, actionPart}
 use Rattle.actions.specs.Refusals.{touched, stagedRefusals}
 use Rattle.actions.specs.Staged.{stagedAs}
@@ -37,16 +36,17 @@ pub place-or-first-below : (part n most : ℕ) (l : List ℕ) (place : Found) �
 place-or-first-below part n most l Nothing few room e = omega arith
 place-or-first-below part n most l (At i) few room e = omega (arith, place-below part n l i (sym e))
 
--- ---- 12 to 15 by what is found in the columns
+-- ---- 12 to 15 and 21 by what is found in the columns
 
--- the place that is found in the columns of a table says what the table has under the part number
-pub staged-by-place : (columns : Columns) (t : Table) → ColumnsOf columns t → (part : ℕ) (v : Version) (place : Found)
+-- the place that is found in the columns of a table says what the table has under the part number; v and stays stand in for places past
+-- the columns
+pub staged-by-place : (columns : Columns) (t : Table) → ColumnsOf columns t → (part : ℕ) (v : Version) (stays : Bool) (place : Found)
     → place ≡ placeAmong 0 part (take (columns .count) (columns .parts))
-    → stagedAt place (getD (columns .versions) (placeOr 0 place) v) ≡ stagedAs (find part t)
-staged-by-place columns t of part v Nothing e = sym (ap stagedAs (none-among columns t of part (sym e)))
-staged-by-place columns t of part v (At i) e =
-    let f = found-among columns t of part i v (sym e) in
-    ap staged.At (f .same-version) ∙ sym (ap stagedAs (f .there))
+    → stagedAt place (getD (columns .versions) (placeOr 0 place) v) (getD (columns .marks) (placeOr 0 place) stays) ≡ stagedAs (find part t)
+staged-by-place columns t of part v stays Nothing e = sym (ap stagedAs (none-among columns t of part (sym e)))
+staged-by-place columns t of part v stays (At i) e =
+    let p = found-among columns t of part i v stays (sym e) in
+    rw (p .same-version, p .same-mark) (sym (ap stagedAs (p .there)))
 
 -- the action passes exactly where the number of the first refusal is 0
 pub zero-untouched : (t : Table) (n : ℕ) (a : Action) (part r : ℕ) → part ≡ actionPart a

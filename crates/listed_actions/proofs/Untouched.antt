@@ -1,5 +1,5 @@
--- Passing 11 to 15 in turn is decided on the beginning table: an action that passes changes what is found of its own cluster alone, and
--- the number of staged clusters by what `stagedAfter` says. Assumes nothing.
+-- Passing 11 to 15 and 21 in turn is decided on the beginning table: an action that passes changes what is found of its own cluster
+-- alone, and the number of staged clusters by what `stagedAfter` says. Assumes nothing.
 use Prim.Native.Nat.{ℕ, _+_}
 use mathlib.Core.Path.{_≡_, refl, sym, ap, _∙_}
 use mathlib.Core.Bool.{true, false, _||_}
@@ -11,7 +11,7 @@ use lib.ListN.{length}
 use borrow.Author.Tests.{eqb-true, not-false}
 use Rattle.base.specs.Refusals.{noneApplies}
 use Rattle.base.proofs.Tests.{and-left, and-right, bool-cases, none-some, or-left-false, or-right-false}
-use Rattle.clusters.specs.Cluster.{Cluster}
+use Rattle.clusters.specs.Cluster.{Cluster, withMark}
 use Rattle.clusters.specs.Table.{Table, find, risingAbove, tableWithin}
 use Rattle.clusters.proofs.Equal.{find-low}
 use Rattle.clusters.proofs.Limits.{rising-says, rising-clusters}
@@ -37,7 +37,7 @@ one-out part last (d ∷ t) c r e =
 
 staged-after : (a : Action) (t : Table) → tableWithin t ≡ true → clusterAbsent (find (actionPart a) t) a ≡ false → length (apply a t) ≡ stagedAfter a (length t)
 unfolding apply stagedAfter clusterAbsent
-staged-after (install c) t w h = rw (length-insert c t) (omega arith)
+staged-after (install c) t w h = rw (length-insert (withMark c false) t) (omega arith)
 staged-after (update c) t w h = length-replace c t
 staged-after (remove part) t w h =
     let p = staged-is (find part t) (not-false _ h) in
@@ -51,7 +51,7 @@ record Staged (beginning staged : Table) (n : ℕ) (listed : List Action) : Type
   within : tableWithin staged ≡ true
 
 module _ (b t : Table) (n : ℕ) (listed : List Action) where
-  -- 12 to 15 of an untouched cluster
+  -- 12 to 15 and 21 of an untouched cluster
   passes-untouched : (a : Action) → find (actionPart a) t ≡ find (actionPart a) b → length t ≡ n → touched (actionPart a) listed ≡ false
       → passes t listed a ≡ passesUntouched b n a
   unfolding passes actionRefusals noneApplies passesUntouched

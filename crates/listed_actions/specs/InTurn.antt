@@ -1,4 +1,4 @@
--- "pass 11 to 15 in turn", decided on the beginning table and the number of staged clusters: each cluster is touched once, so what is
+-- "pass 11 to 15 in turn", and 21 beside them, decided on the beginning table and the number of staged clusters: each cluster is touched once, so what is
 -- staged of an untouched one is what the beginning table has. proofs/Untouched.antt shows that it is `passInTurn`.
 use Prim.Native.Nat.{ℕ, _+_, _-_}
 use mathlib.Core.Bool.{Bool, true, not, _&&_}
@@ -15,7 +15,7 @@ use Rattle.actions.specs.Refusals.{touched, stagedRefusals}
 
 -- ---- on the beginning table
 
--- 12 to 15 of an action on a cluster that no listed action touches, with so many clusters staged
+-- 12 to 15 and 21 of an action on a cluster that no listed action touches, with so many clusters staged
 unfoldable pub passesUntouched : Table → ℕ → Action → Bool
 passesUntouched beginning staged a = noneApplies (stagedRefusals (find (actionPart a) beginning) staged a)
 
@@ -26,7 +26,7 @@ stagedAfter (install c) staged = staged + 1
 stagedAfter (update c) staged = staged
 stagedAfter (remove part) staged = staged - 1
 
--- "pass 11 to 15 in turn": each action after those listed before it, 11 by the list and 12 to 15 as above
+-- "pass 11 to 15 in turn": each action after those listed before it, 11 by the list and the others as above
 unfoldable pub passInTurnOn : Table → ℕ → List Action → List Action → Bool
 passInTurnOn beginning staged listed [] = true
 passInTurnOn beginning staged listed (a ∷ rest) =
@@ -35,7 +35,7 @@ passInTurnOn beginning staged listed (a ∷ rest) =
 
 -- ---- the same by what the columns of the table have
 
--- what is staged of the cluster with that place, where its version stands
-abbrev pub stagedAt : Found → Version → Staged
-stagedAt (At i) version = staged.At version
-stagedAt Nothing version = staged.Nothing
+-- what is staged of the cluster with that place, where its version and mark stand
+abbrev pub stagedAt : Found → Version → Bool → Staged
+stagedAt (At i) version stays = staged.At version stays
+stagedAt Nothing version stays = staged.Nothing

@@ -1,4 +1,4 @@
-// The refusals 11 to 15 of the listed actions, in turn.
+// The refusals 11 to 15 and 21 of the listed actions, in turn.
 use crate::columns::entry_columns;
 use crate::columns::is_among;
 use actions::action::Change;
@@ -25,7 +25,7 @@ ghost use Rattle.state.specs.View.{entriesMost};
 ghost use Rattle.listed_actions.specs.Listed.{listedActions};
 ghost use Rattle.listed_actions.specs.InTurn.{stagedAt, stagedAfter};
 
-// A place to read a version at: the cluster's in the columns, and the first where it is not there.
+// A place to read a version and a mark at: the cluster's in the columns, and the first where it is not there.
 fn place_or_first(place: Found) -> usize
     ensures { λ r. ⌜ r ≡ placeOr 0 place ⌝ }
 {
@@ -35,13 +35,13 @@ fn place_or_first(place: Found) -> usize
     }
 }
 
-// What is staged of a cluster by its place in the beginning table, where no listed action touches it. The version is the one that stands
-// there.
-fn staged_at(place: Found, version: Version) -> Staged
-    ensures { λ r. ⌜ r ≡ stagedAt place version ⌝ }
+// What is staged of a cluster by its place in the beginning table, where no listed action touches it. The version and the mark are those
+// that stand there.
+fn staged_at(place: Found, version: Version, stays: bool) -> Staged
+    ensures { λ r. ⌜ r ≡ stagedAt place version stays ⌝ }
 {
     match place {
-        Found::At(_) => Staged::At(version),
+        Found::At(_) => Staged::At(version, stays),
         Found::Nothing => Staged::Nothing,
     }
 }
@@ -59,7 +59,7 @@ fn staged_after(change: Change, staged: usize) -> usize
     }
 }
 
-// Whether the first count of the listed actions pass 11 to 15 in turn on the table that the columns are of. The table and the
+// Whether the first count of the listed actions pass 11 to 15 and 21 in turn on the table that the columns are of. The table and the
 // actions are within their limits; soundness checks that before, and that the counts fit.
 pub fn pass_in_turn(columns: Columns, entries: [Entry; ENTRIES_MOST], count: usize) -> bool
     requires { ⌜ (columns .count ≤ clustersMost) × (count ≤ entriesMost) ⌝ }
@@ -79,9 +79,10 @@ pub fn pass_in_turn(columns: Columns, entries: [Entry; ENTRIES_MOST], count: usi
         let place = place_of(&columns.parts, clusters, cluster.part);
         let at = place_or_first(place);
         let old = columns.versions[at];
+        let stays = columns.marks[at];
         let change = action.change;
         let version = cluster.version;
-        if staged_refusal(staged_at(place, old), staged, change, version) != 0 {
+        if staged_refusal(staged_at(place, old, stays), staged, change, version) != 0 {
             return false;
         }
         staged = staged_after(change, staged);

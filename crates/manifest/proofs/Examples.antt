@@ -8,7 +8,7 @@ use Rattle.base.specs.Quoted.{bytes}
 use Rattle.base.proofs.Tables.{_gives_, AllHold, inLines}
 use Rattle.text.specs.Version.{version}
 use Rattle.clusters.specs.declared.cluster.Need.{Need}
-use Rattle.clusters.specs.Cluster.{Cluster, cluster}
+use Rattle.clusters.specs.Cluster.{Cluster, cluster, need}
 use Rattle.actions.specs.Action.{Action, install, update, remove}
 use Rattle.manifest.specs.Package.{PackageRead, illFormed, inconsistent, consistent, readPackage}
 use Rattle.manifest.specs.Open.{computing}
@@ -22,7 +22,7 @@ abbrev thirty : List Need → Cluster
 thirty needs = cluster 30 (version 1 0 0 0) needs
 
 abbrev twenty : Need
-twenty = record { part = 20; least = version 1 0 4 0 }
+twenty = need 20 (version 1 0 4 0)
 
 -- an action with its payload's start, count and sum
 abbrev says : Action → ℕ → ℕ → ℕ → PackageRead
@@ -38,7 +38,7 @@ names-computed : AllHold named
     ("action,cluster,version,payload,sum,needs,least" gives says (install (thirty (twenty ∷ []))) 82 0 0
     ∷ "action,cluster,version,sum,payload,needs,least" gives says (install (thirty (twenty ∷ []))) 82 0 0
     ∷ "action,needs,least,payload,sum,cluster,version"
-    gives says (install (record { part = 20; version = version 1 0 4 0; needs = record { part = 30; least = version 1 0 0 0 } ∷ [] })) 82 0 0
+    gives says (install (cluster 20 (version 1 0 4 0) (need 30 (version 1 0 0 0) ∷ []))) 82 0 0
     ∷ "cluster,action,version,payload,sum,needs,least" gives illFormed
     ∷ "action,cluster,version,payload,payload,needs,least" gives illFormed
     ∷ "action,cluster,version,payload,,needs,least" gives illFormed
@@ -57,6 +57,15 @@ name-behind-computed : AllHold (λ (lines : List String). packageOf lines "")
     ∷ [])
 unfolding computing
 name-behind-computed = refl
+
+-- A.2 gives its name to "the cluster list" alone: a package has no mark, neither behind its seven names nor in the place of one
+no-mark-computed : AllHold (λ (lines : List String). packageOf lines "")
+    (("action,cluster,version,payload,sum,needs,least,stays" ∷ "install,30,1.0.0.0,0,0,,,0" ∷ "" ∷ []) gives illFormed
+    ∷ ("action,cluster,version,payload,sum,needs,stays" ∷ "install,30,1.0.0.0,0,0,," ∷ "" ∷ []) gives illFormed
+    ∷ ("action,cluster,version,payload,sum,needs,least" ∷ "install,30,1.0.0.0,0,0,,,0" ∷ "" ∷ []) gives illFormed
+    ∷ [])
+unfolding computing
+no-mark-computed = refl
 
 -- ---- the value lines
 

@@ -3,7 +3,7 @@ ghost use mathlib.Core.Path.{_≡_};
 ghost use mathlib.Core.List.{[]};
 ghost use Prim.Native.Nat.{_+_, _<_};
 ghost use lib.ListN.{length};
-ghost use Rattle.clusters.specs.Cluster.{Cluster as PlainCluster};
+ghost use Rattle.clusters.specs.Cluster.{Cluster as PlainCluster, cluster};
 ghost use Rattle.clusters.specs.View.{noVersion};
 ghost use Rattle.actions.specs.View.{actionOf};
 ghost use Rattle.clusters.specs.Struct.{structCluster};
@@ -54,7 +54,7 @@ pub struct PackageRead {
 
 // A cluster with only its part number.
 fn bare_cluster(part: u32) -> Cluster
-    ensures { λ r. ⌜ r ≡ structCluster (record { part = part; version = noVersion; needs = [] }) ⌝ }
+    ensures { λ r. ⌜ r ≡ structCluster (cluster part noVersion []) ⌝ }
 {
     new_cluster(part, NO_VERSION)
 }

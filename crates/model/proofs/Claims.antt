@@ -9,16 +9,20 @@ use mathlib.Core.Option.{some}
 use Prim.Native.Nat.{ℕ, _+_, _-_, _≤_}
 use lib.ListN.{length, drop, replicate}
 use Rattle.base.specs.Refusals.{firstRefusal}
+use Rattle.clusters.specs.Cluster.{Cluster}
+use Rattle.clusters.specs.Table as tables
 use Rattle.clusters.specs.Table.{Table}
-use Rattle.actions.specs.Action.{applyAll}
+use Rattle.actions.specs.Action.{Action, remove, applyAll}
+use Rattle.actions.specs.Refusals.{touched, isMarked, actionRefusals}
+use Rattle.actions.proofs.Marks.{stays-alone}
 use Rattle.cluster_list.specs.Read.{readList}
 use Rattle.manifest.specs.Package.{Manifest, consistent, readPackage}
-use Rattle.model.specs.State.{Package, isIdle, isProcessing, State, Store, actions}
-use Rattle.model.specs.Calls.{Call, Answer, done, refused, accepted}
-use Rattle.model.specs.Areas.{declared, free, find, areaOf}
-use Rattle.model.specs.Tables.{running}
+use Rattle.model.specs.State.{Package, isIdle, isProcessing, Work, State, Store, actions}
+use Rattle.model.specs.Calls.{Call, process, Answer, done, refused, accepted}
+use Rattle.model.specs.Areas.{declared, free, find, areaOf, isTransferred}
+use Rattle.model.specs.Tables.{staged, running}
 use Rattle.model.specs.Sound.{storeMost, idMost, sound}
-use Rattle.model.specs.Step.{Outcome, outcome, refusals, step}
+use Rattle.model.specs.Step.{Outcome, outcome, areaRead, refusals, step}
 use Rattle.model.specs.Load.{tableOrEmpty, isBadLoad, loadedState, load}
 use Rattle.model.specs.Run.{Made, Run, run, acceptedOnly, callsOf}
 use Rattle.model.specs.Journal.{Journal, opened, journal}
@@ -28,13 +32,15 @@ use Rattle.model.proofs.soundness.SoundFacts.{sound-by-length}
 use Rattle.model.proofs.soundness.KeptSound.{step-sound}
 use Rattle.model.proofs.soundness.LoadSound.{load-refused, load-gives-back}
 use Rattle.model.proofs.soundness.RunningWithin.{info-loads}
-use Rattle.model.specs.Accepted.{Accepted}
+use Rattle.model.proofs.soundness.Marks.{marked-is, listed-unsound, kept-unsound}
+use Rattle.model.specs.Accepted.{AtRest, Accepted}
 use Rattle.model.proofs.transitions.Refused as refusing
-use Rattle.model.proofs.transitions.NoOtherRefusal.{accepted-exactly}
+use Rattle.model.proofs.transitions.NoOtherRefusal.{accepted-exactly, process-refused}
 use Rattle.model.proofs.reading.Payload.{given-exactly}
 use Rattle.model.proofs.journal.Lists.{state-last, store-last, stands-at}
 use Rattle.model.proofs.journal.Demand3 as every
 use Rattle.model.proofs.journal.SessionTable.{last-session}
+use Rattle.model.proofs.journal.MarkedStay.{list-marks}
 use Rattle.model.proofs.journal.Opened.{load-invariant, load-length}
 
 -- "After a refusal they hold what they held before, the state comes back equal": on any state and store
@@ -86,6 +92,29 @@ pub cluster-info-loads-back : (s : State) (store : Store) → sound s store ≡ 
     → (given : State) (first : ℕ) (lent : Store) → 1 ≤ first → first ≤ idMost → length lent ≤ storeMost
     → load given (clusterInfo s) first lent ≡ outcome done (loadedState (running s) first) (replicate (length lent) 0)
 cluster-info-loads-back = info-loads
+
+-- A.2, "A cluster with 1 can't be removed" and "21 Stays, .. for remove of a cluster marked 1": Process of a package that removes a staged
+-- cluster which is marked, and which the session does not touch, is refused by 21 where none of 1 to 10 applies. No other of 11 to 15
+-- does (`stays-alone` of `actions`)
+pub marked-removal-refused-by-21 : (s : State) (store : Store) → sound s store ≡ true → (id : ℕ) (p : Package) (m : Manifest) → AtRest (s .phase)
+    → find id (s .transfers .packages) ≡ some p → isTransferred (p .state) ≡ true → areaRead s store id ≡ consistent m
+    → (part : ℕ) (c : Cluster) → m .action ≡ remove part → touched part (actions (s .session .listed)) ≡ false
+    → tables.find part (staged (s .session)) ≡ some c → c .stays ≡ true → step s store (process id) .reply ≡ refused 21
+marked-removal-refused-by-21 s store h id p m rest e h5 h9 part c removes untouched there mark =
+    process-refused s store h id p m rest e h5 h9 21
+    (ap (λ (a : Action). firstRefusal (actionRefusals (staged (s .session)) (actions (s .session .listed)) a)) removes
+    ∙ stays-alone (staged (s .session)) (actions (s .session .listed)) part c there mark untouched .first)
+
+-- A.2, "soundness has it beside 11 to 15": a state is not sound whose list has a remove of a cluster that is marked in the table staged
+-- before it, or whose kept action is a remove of a marked staged one
+pub listed-marked-removal-unsound : (s : State) (store : Store) (before rest : List Action) (part : ℕ)
+    → actions (s .session .listed) ≡ before ++ remove part ∷ rest
+    → isMarked (tables.find part (applyAll (s .session .beginning) before)) ≡ true → sound s store ≡ false
+listed-marked-removal-unsound = listed-unsound
+
+pub kept-marked-removal-unsound : (s : State) (store : Store) (w : Work) (part : ℕ) → s .work ≡ some w → w .action ≡ remove part
+    → isMarked (tables.find part (staged (s .session))) ≡ true → sound s store ≡ false
+kept-marked-removal-unsound = kept-unsound
 
 -- "from an accepted Load": any state handed in, any list, first id and store with which it is accepted
 module _ (given : State) (list : List ℕ) (first : ℕ) (lent : Store)
@@ -206,6 +235,23 @@ module _ (given : State) (list : List ℕ) (first : ℕ) (lent : Store)
         (λ (t : Table). (running (after (before ++ session) .state) ≡ t)
         ⊎ (running (after (before ++ session) .state) ≡ applyAll t (journalOf (before ++ session) .A)))
         (B-is-the-table-when-the-session-began before session began goes-on) (agrees (before ++ session) .noThird)
+
+  -- ---- marks
+
+  -- A.2, "A cluster with 1 can't be removed", "Install gives 0, update keeps it": a cluster is marked in the running table exactly when it
+  -- is marked in the loaded one
+  pub marked-stay : (calls : List Call) (part : ℕ)
+      → isMarked (tables.find part (running (after calls .state))) ≡ isMarked (tables.find part (tableOrEmpty (readList list)))
+  unfolding opened
+  marked-stay calls part =
+      let i = load-invariant given list first lent is-accepted in
+      list-marks part calls (loaded .state) (loaded .store) (i .isSound) ∙ ap (λ (t : Table). isMarked (tables.find part t)) (sym (i .tables .beginning))
+
+  -- and so it is there
+  pub marked-there : (calls : List Call) (part : ℕ) (c : Cluster) → tables.find part (tableOrEmpty (readList list)) ≡ some c → c .stays ≡ true
+      → (d : Cluster) × (tables.find part (running (after calls .state)) ≡ some d) × (d .stays ≡ true)
+  marked-there calls part c there mark =
+      marked-is _ (marked-stay calls part ∙ ap isMarked there ∙ mark)
 
   -- ---- refused calls
 

@@ -7,6 +7,7 @@ pub mod Lists
 pub mod Returns
 pub mod NeverUnsound
 pub mod SessionTable
+pub mod MarkedStay
 pub mod Demand3
 pub mod EventRuns
 pub mod Layers

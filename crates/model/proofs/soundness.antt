@@ -14,3 +14,4 @@ pub mod SoundSession
 pub mod KeptSound
 pub mod LoadSound
 pub mod RunningWithin
+pub mod Marks

@@ -24,8 +24,8 @@ use Rattle.model.specs.Tables.{staged}
 use Rattle.model.specs.Sound.{packagesMost, idMost}
 use Rattle.model.specs.Step.{Outcome, outcome, areaRead, withPackages, workAtStart, taken, workOn, withCancelNoted, rollbackPhase, changesPackages, endsProcessing, listedWith, cleanedUp}
 
--- an action that is applicable to a staged table after the listed actions: none of the refusals 11 to 15 that are quoted beside its case
--- applies, and "11. ClusterTouched: .. the session's list has the cluster." does not
+-- an action that is applicable to a staged table after the listed actions: none of the refusals 11 to 15 and 21 that are quoted beside its
+-- case applies, and "11. ClusterTouched: .. the session's list has the cluster." does not
 pub data Applicable (onto : Table) (listed : List Action) : Action → Type 0 where
   -- "12. ClusterPresent: install of a staged cluster."; "15. TableFull: install with 64 staged."
   installs : (c : Cluster) → touched (c .part) listed ≡ false → tables.find (c .part) onto ≡ none → length onto < clustersMost
@@ -33,7 +33,8 @@ pub data Applicable (onto : Table) (listed : List Action) : Action → Type 0 wh
   -- "13. ClusterAbsent: update or remove of one not staged."; "14. OldVersion: update not above the staged version."
   updates : (c present : Cluster) → touched (c .part) listed ≡ false → tables.find (c .part) onto ≡ some present
       → above (c .version) (present .version) ≡ true → Applicable onto listed (update c)
-  removes : (part : ℕ) (present : Cluster) → touched part listed ≡ false → tables.find part onto ≡ some present
+  -- 13 as above; A.2: "21 Stays, .. for remove of a cluster marked 1"
+  removes : (part : ℕ) (present : Cluster) → touched part listed ≡ false → tables.find part onto ≡ some present → present .stays ≡ false
       → Applicable onto listed (remove part)
 
 -- "Process(id): Idle or Ready to Processing."
@@ -113,7 +114,7 @@ pub data Accepted : State → Store → Call → Outcome → Type 0 where
       (changesPackages s store
       (remaining (λ q. not (eqb id (q .id))) (s .transfers .packages))
       (deleted (λ q. not (eqb id (q .id))) (s .transfers .packages) store))
-  -- "5. .. Process off Transferred"; 9 and 10 as above; 11 to 15 of the package's action
+  -- "5. .. Process off Transferred"; 9 and 10 as above; 11 to 15 and 21 of the package's action
   processes : {s : State} {store : Store} (id : ℕ) (p : Package) (m : Manifest) → AtRest (s .phase)
       → find id (s .transfers .packages) ≡ some p
       → isTransferred (p .state) ≡ true → areaRead s store id ≡ consistent m

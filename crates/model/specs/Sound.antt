@@ -64,14 +64,14 @@ processedAsListed entries (p ∷ ps) = Bool·beq (isProcessed (p .state)) (isLis
 unfoldable pub listSound : List Entry → List Package → Bool
 listSound entries packages = eqb (length entries) (countIn isProcessed packages) && processedAsListed entries packages
 
--- "and pass 11 to 15 in turn", within "every limit above"
+-- "and pass 11 to 15 in turn", A.2: 21 "beside 11 to 15", within "every limit above"
 unfoldable pub sessionSound : Session → Bool
 sessionSound session =
     tableWithin (session .beginning)
     && (actionsWithin (actions (session .listed)) && passInTurn (session .beginning) [] (actions (session .listed)))
 
 -- "c0 and c1 are at most 254; in Processing the kept payload start plus count is that package's size"; "with an action that
--- passes them and done bytes at most its payload"
+-- passes them and done bytes at most its payload", 21 among them since A.2
 unfoldable pub workSound : Session → List Package → Work → Bool
 workSound session packages w =
     actionWithin (w .action)

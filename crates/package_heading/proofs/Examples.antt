@@ -12,7 +12,7 @@ use Rattle.text.specs.Version.{version}
 use Rattle.rows.specs.declared.columns.PackageColumns.{PackageColumns}
 use Rattle.actions.specs.declared.action.Change.{Change}
 use Rattle.actions.specs.declared.action.Change.the-variants.{Install, Update, Remove}
-use Rattle.clusters.specs.Cluster.{cluster}
+use Rattle.clusters.specs.Cluster.{cluster, need}
 use Rattle.package_heading.specs.declared.change.ChangeRead.the-variants.{Value, IllFormed}
 use Rattle.package_heading.specs.Heading.{Heading, heading, changeOf, firstLine}
 use Rattle.package_heading.specs.Open.{computing}
@@ -30,7 +30,7 @@ alone change v count sum = heading change (cluster 30 v []) count sum
 
 abbrev withNeed : Change → Version → ℕ → ℕ → Heading
 withNeed change v count sum =
-    heading change (record { part = 30; version = v; needs = record { part = 20; least = version 1 0 4 0 } ∷ [] }) count sum
+    heading change (cluster 30 v (need 20 (version 1 0 4 0) ∷ [])) count sum
 
 -- "Action is `install`, `update` or `remove`."
 actions-computed : AllHold (λ (word : String). changeOf (bytes word))

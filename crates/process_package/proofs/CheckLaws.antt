@@ -70,7 +70,7 @@ module _ (packageState : PackageState) (session : Session) where
   text-number inconsistent n on e applies = rw on e
   text-number (consistent m) n on e applies = absurd (applies e)
 
-  -- past these, by 11 to 15
+  -- past these, by 11 to 15 and 21
   action-number : (read : PackageRead) (n : ℕ) → not (isTransferred packageState) ≡ false → refusalNumber read ≡ 0
       → n ≡ actionRefusal (staged session) (actions (session .listed)) (manifestOf read .action)
       → n ≡ numberOrZero (firstRefusal (processRefusals packageState read session))

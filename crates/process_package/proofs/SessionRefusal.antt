@@ -1,5 +1,5 @@
--- 11 to 15 of an action behind a sound session's list: what the code asks of the columns and of the staged table is what the definition
--- asks. Assumes nothing.
+-- 11 to 15 and 21 of an action behind a sound session's list: what the code asks of the columns and of the staged table is what the
+-- definition asks. Assumes nothing.
 use Prim.Native.Nat.{ℕ, _≤_}
 use mathlib.Core.Path.{_≡_, sym, ap, _∙_}
 use mathlib.Core.Bool.{Bool, true}

@@ -48,7 +48,8 @@ fn is_touched(entries: [Entry; ENTRIES_MOST], count: usize, part: u32) -> bool
     is_among(&columns.parts, count, part)
 }
 
-// The number of the first of the refusals 11 to 15 of an action behind the session's list, or 0. A sound state meets what is required.
+// The number of the first of the refusals 11 to 15 and 21 of an action behind the session's list, or 0. A sound state meets what is
+// required.
 fn session_refusal(session: Session, action: Action) -> u32
     requires { ⌜ (session .count ≤ entriesMost) × (sessionSound (viewSession session) ≡ true) ⌝ }
     ensures { λ r. ⌜ r ≡ actionRefusal (staged (viewSession session)) (actions (viewEntries session)) (viewAction action) ⌝ }

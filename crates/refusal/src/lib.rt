@@ -1,5 +1,5 @@
-// The numbers of the refusals, in document 01's order: "a refusal is the number alone". 19 adds a length and is therefore a case of the
-// reading calls' reply.
+// The numbers of the refusals, in the order in which they are checked: "a refusal is the number alone". 19 adds a length and is
+// therefore a case of the reading calls' reply.
 pub const BAD_STATE: u32 = 1;
 
 pub const SERVICE_BUSY: u32 = 2;
@@ -25,6 +25,9 @@ pub const CLUSTER_TOUCHED: u32 = 11;
 pub const CLUSTER_PRESENT: u32 = 12;
 
 pub const CLUSTER_ABSENT: u32 = 13;
+
+// Checked directly after 13.
+pub const STAYS: u32 = 21;
 
 pub const OLD_VERSION: u32 = 14;
 

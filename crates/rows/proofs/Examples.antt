@@ -7,12 +7,16 @@ use mathlib.Core.List.{List, [], _∷_}
 use mathlib.Core.Option.{Option, none, some}
 use Rattle.base.specs.Quoted.{bytes}
 use Rattle.base.proofs.Tables.{_gives_, AllHold, inLines}
+use Rattle.rows.specs.declared.columns.Column.{Column}
+use Rattle.rows.specs.declared.columns.Column.the-variants.{At, Missing}
 use Rattle.rows.specs.declared.columns.ClusterColumns.{ClusterColumns}
 use Rattle.rows.specs.declared.columns.PackageColumns.{PackageColumns}
+use Rattle.rows.specs.declared.list_columns.ListColumns.{ListColumns}
 use Rattle.rows.specs.Field.{cell, isEmpty, plainField}
 use Rattle.rows.specs.Line.{lineFrom, lineText, andThenLine}
 use Rattle.rows.specs.Columns.{clusterColumns, packageColumns, andThenClusterColumns, andThenPackageColumns}
-use Rattle.rows.specs.Names.{clusterNames, packageNames, timesNamed, timesIn}
+use Rattle.rows.specs.ListColumns.{listColumns, andThenListColumns}
+use Rattle.rows.specs.Names.{clusterNames, listNames, packageNames, timesNamed, timesIn}
 use Rattle.rows.specs.Open.{computing}
 
 -- ---- fields and lines
@@ -80,6 +84,56 @@ cluster-names-computed : AllHold clusterNamed
 unfolding computing
 cluster-names-computed = refl
 
+abbrev listNamed : List ℕ → Option (ListColumns × ℕ)
+listNamed text = andThenListColumns none (listColumns text) λ columns next. some (columns, next)
+
+-- the columns of these places, and where the names line ends
+abbrev ends : ClusterColumns → Column → ℕ → Option (ListColumns × ℕ)
+ends c stays next = some (record { «cluster_columns» = c; stays = stays }, next)
+
+-- "a fifth name in the cluster list"; "A four-name list still loads": the number of fields decides
+list-names-computed : AllHold (λ (names : String). listNamed (inLines (names ∷ "," ∷ [])))
+    ("cluster,version,needs,least" gives ends (columns 0 1 2 3) Missing 28
+    ∷ "version,cluster,least,needs" gives ends (columns 1 0 3 2) Missing 28
+    ∷ "cluster,version,needs,least,stays" gives ends (columns 0 1 2 3) (At 4) 34
+    ∷ "stays,cluster,version,needs,least" gives ends (columns 1 2 3 4) (At 0) 34
+    ∷ "least,needs,stays,version,cluster" gives ends (columns 4 3 1 0) (At 2) 34
+    ∷ "cluster,stays,version,least,needs" gives ends (columns 0 2 4 3) (At 1) 34
+    ∷ "cluster,version,needs,stays" gives none
+    ∷ "stays,version,needs,least" gives none
+    ∷ "cluster,version,needs,needs" gives none
+    ∷ "cluster,version,needs,least,least" gives none
+    ∷ "cluster,version,needs,stays,stays" gives none
+    ∷ "cluster,cluster,needs,least,stays" gives none
+    ∷ "cluster,version,needs,least," gives none
+    ∷ "cluster,version,needs,least,sum" gives none
+    ∷ "cluster,version,needs,least,Stays" gives none
+    ∷ "cluster,version,needs,least, stays" gives none
+    ∷ "cluster,version,needs,least,stay" gives none
+    ∷ "cluster,version,needs" gives none
+    ∷ "cluster,version,needs,least,stays," gives none
+    ∷ "cluster,version,needs,least,stays,sum" gives none
+    ∷ "" gives none
+    ∷ [])
+unfolding computing
+list-names-computed = refl
+
+-- a names line without LF
+list-ends-computed : AllHold (λ (text : String). listNamed (bytes text))
+    ("cluster,version,needs,least" gives none ∷ "cluster,version,needs,least,stays" gives none ∷ "" gives none ∷ [])
+unfolding computing
+list-ends-computed = refl
+
+-- a name that the names line lacks and the next line begins with is no name of the list
+list-lines-computed : AllHold (λ (lines : List String). listNamed (inLines lines))
+    (("cluster,version,needs,sum" ∷ "least" ∷ []) gives none
+    ∷ ("cluster,version,needs,sum,stays" ∷ "least" ∷ []) gives none
+    ∷ ("cluster,version,needs,least,sum" ∷ "stays" ∷ []) gives none
+    ∷ ("cluster,version,needs,least" ∷ "stays" ∷ []) gives ends (columns 0 1 2 3) Missing 28
+    ∷ [])
+unfolding computing
+list-lines-computed = refl
+
 abbrev packageNamed : String → Option PackageColumns
 packageNamed names = andThenPackageColumns none (packageColumns 7 (inLines (names ∷ "," ∷ []))) some
 
@@ -109,9 +163,14 @@ times-computed = refl
 
 -- each name is in its list of names once, and no other is
 cluster-names-listed : AllHold (λ (name : String). timesIn (bytes name) clusterNames)
-    ("cluster" gives 1 ∷ "version" gives 1 ∷ "needs" gives 1 ∷ "least" gives 1 ∷ "sum" gives 0 ∷ "" gives 0 ∷ [])
+    ("cluster" gives 1 ∷ "version" gives 1 ∷ "needs" gives 1 ∷ "least" gives 1 ∷ "stays" gives 0 ∷ "sum" gives 0 ∷ "" gives 0 ∷ [])
 unfolding computing
 cluster-names-listed = refl
+
+list-names-listed : AllHold (λ (name : String). timesIn (bytes name) listNames)
+    ("cluster" gives 1 ∷ "version" gives 1 ∷ "needs" gives 1 ∷ "least" gives 1 ∷ "stays" gives 1 ∷ "sum" gives 0 ∷ "" gives 0 ∷ [])
+unfolding computing
+list-names-listed = refl
 
 package-names-listed : AllHold (λ (name : String). timesIn (bytes name) packageNames)
     ("action" gives 1

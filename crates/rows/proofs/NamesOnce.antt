@@ -1,5 +1,5 @@
 -- "each once, in any order": in a line with as many fields as there are names, and each name among them, a name stands as often as it is
--- in the list of names. The four names of a cluster list and the seven of a package are each in theirs once. Assumes nothing.
+-- in the list of names. The four or five names of a cluster list and the seven of a package are each in theirs once. Assumes nothing.
 use Prim.Native.Nat.{ℕ, zero, suc, _≤_}
 use mathlib.Core.Path.{_≡_, refl, sym, subst, _∙_}
 use mathlib.Core.Bool.{Bool, true, cond, _&&_}
@@ -10,9 +10,14 @@ use lib.ListN.{length}
 use borrow.Author.Tests.{eqb-true}
 use Rattle.base.specs.Quoted.{bytes}
 use Rattle.base.proofs.Tests.{and-left, and-right, bool-cases}
+use Rattle.text.specs.declared.cursor.Cursor.{Cursor}
 use Rattle.text.specs.Word.{sameBytes}
 use Rattle.text.proofs.WordLaws.{same-bytes-self}
-use Rattle.rows.specs.declared.columns.Column.the-variants.{At}
+use Rattle.rows.specs.declared.columns.Column.the-variants.{At, Missing}
+use Rattle.rows.specs.declared.line.Line.the-variants.{Ends}
+use Rattle.rows.specs.declared.list_columns.ListColumns.{ListColumns}
+use Rattle.rows.specs.declared.list_columns.ListColumnsRead.{ListColumnsRead}
+use Rattle.rows.specs.declared.list_columns.ListColumnsRead.the-variants as list-read
 use Rattle.rows.specs.declared.columns.ClusterColumns.{ClusterColumns}
 use Rattle.rows.specs.declared.columns.ClusterColumnsRead.{ClusterColumnsRead}
 use Rattle.rows.specs.declared.columns.ClusterColumnsRead.the-variants as cluster-read
@@ -20,10 +25,12 @@ use Rattle.rows.specs.declared.columns.PackageColumns.{PackageColumns}
 use Rattle.rows.specs.declared.columns.PackageColumnsRead.{PackageColumnsRead}
 use Rattle.rows.specs.declared.columns.PackageColumnsRead.the-variants as package-read
 use Rattle.rows.specs.Field.{behindField, cell}
+use Rattle.rows.specs.Line.{lineFrom}
 use Rattle.rows.specs.Columns.{columnFrom, clusterColumns, packageColumns}
-use Rattle.rows.specs.Names.{clusterNames, packageNames, timesNamed, timesIn}
+use Rattle.rows.specs.ListColumns.{fourColumns, fiveColumns, listColumns}
+use Rattle.rows.specs.Names.{clusterNames, listNames, packageNames, timesNamed, timesIn}
 use Rattle.rows.proofs.ColumnMeaning.{column-below, column-cell}
-use Rattle.rows.proofs.ThenLaws.{then-cases-column, then-cases-cluster-columns}
+use Rattle.rows.proofs.ThenLaws.{then-cases-line, then-cases-column, then-cases-cluster-columns}
 use Rattle.rows.proofs.Totals.{totalOf, totalBelow, markAt, NoneTwice, EachBelow, all-places}
 
 -- no name is twice in the list
@@ -89,6 +96,10 @@ module _ {l : List ℕ} {names : List (List ℕ)} {ks : List ℕ} (found : Place
 abbrev pub clusterPlaces : ClusterColumns → List ℕ
 clusterPlaces c = c .cluster ∷ c .version ∷ c .needs ∷ c .least ∷ []
 
+-- the places of the five names
+abbrev pub listPlaces : ClusterColumns → ℕ → List ℕ
+listPlaces c stays = c .cluster ∷ c .version ∷ c .needs ∷ c .least ∷ stays ∷ []
+
 abbrev ClusterPlaced : ℕ → List ℕ → ClusterColumnsRead → Type 0
 ClusterPlaced fields l (cluster-read.Named c) = Placed fields l clusterNames (clusterPlaces c)
 ClusterPlaced fields l cluster-read.IllFormed = Unit {0}
@@ -112,6 +123,47 @@ cluster-names-differ = refl
 pub cluster-names-once : (l : List ℕ) (c : ClusterColumns) → clusterColumns 4 l ≡ cluster-read.Named c
     → (name : List ℕ) → timesNamed 4 name l ≡ timesIn name clusterNames
 cluster-names-once l c e = as-often (cluster-placed 4 l c e) cluster-names-differ
+
+-- ---- the names line of a cluster list
+
+-- it has four fields and the four names, or five fields and the five names
+pub data ListPlaced (l : List ℕ) (columns : ListColumns) (next : Cursor) : Type 0 where
+  four : lineFrom 3 0 l ≡ Ends next → columns .stays ≡ Missing → Placed 4 l clusterNames (clusterPlaces (columns .«cluster_columns»))
+      → ListPlaced l columns next
+  five : (stays : ℕ) → lineFrom 4 0 l ≡ Ends next → columns .stays ≡ At stays
+      → Placed 5 l listNames (listPlaces (columns .«cluster_columns») stays) → ListPlaced l columns next
+
+abbrev ListRead : List ℕ → ListColumnsRead → Type 0
+ListRead l (list-read.Named columns next) = ListPlaced l columns next
+ListRead l list-read.IllFormed = Unit {0}
+
+list-columns-placed : (l : List ℕ) → ListRead l (listColumns l)
+unfolding listColumns fourColumns fiveColumns
+list-columns-placed l =
+    then-cases-line (ListRead l) _ (lineFrom 3 0 l) _
+    (then-cases-line (ListRead l) list-read.IllFormed (lineFrom 4 0 l) _ tt λ next e.
+    then-cases-cluster-columns (ListRead l) list-read.IllFormed (clusterColumns 5 l) _ tt λ c named.
+    then-cases-column (ListRead l) list-read.IllFormed (columnFrom 5 0 (bytes "stays") l) _ tt λ stays marked.
+    five stays e refl (behind marked (cluster-placed 5 l c named)))
+    λ next e.
+    then-cases-cluster-columns (ListRead l) list-read.IllFormed (clusterColumns 4 l) _ tt λ c named.
+    four e refl (cluster-placed 4 l c named)
+  where
+    behind : {stays cluster version needs least : ℕ} → columnFrom 5 0 (bytes "stays") l ≡ At stays
+        → Placed 5 l clusterNames (cluster ∷ version ∷ needs ∷ least ∷ []) → Placed 5 l listNames (cluster ∷ version ∷ needs ∷ least ∷ stays ∷ [])
+    behind e (more c (more v (more n (more least rest)))) = more c (more v (more n (more least (more e none))))
+
+pub list-placed : (l : List ℕ) (columns : ListColumns) (next : Cursor) → listColumns l ≡ list-read.Named columns next → ListPlaced l columns next
+list-placed l columns next e = subst (ListRead l) e (list-columns-placed l)
+
+pub list-names-differ : different listNames ≡ true
+unfolding different timesIn sameBytes
+list-names-differ = refl
+
+-- a names line of five fields has each of the five names once
+pub list-names-once : (l : List ℕ) (c : ClusterColumns) (stays : ℕ) → Placed 5 l listNames (listPlaces c stays)
+    → (name : List ℕ) → timesNamed 5 name l ≡ timesIn name listNames
+list-names-once l c stays found = as-often found list-names-differ
 
 -- ---- the seven names of a package
 

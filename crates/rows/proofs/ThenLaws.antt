@@ -13,12 +13,20 @@ use Rattle.rows.specs.declared.columns.ClusterColumnsRead.the-variants a
 use Rattle.rows.specs.declared.columns.PackageColumns.{PackageColumns}
 use Rattle.rows.specs.declared.columns.PackageColumnsRead.{PackageColumnsRead}
 use Rattle.rows.specs.declared.columns.PackageColumnsRead.the-variants as package-read
+use Rattle.rows.specs.declared.list_columns.ListColumns.{ListColumns}
+use Rattle.rows.specs.declared.list_columns.ListColumnsRead.{ListColumnsRead}
+use Rattle.rows.specs.declared.list_columns.ListColumnsRead.the-variants as list-read
 use Rattle.rows.specs.Line.{andThenLine}
 use Rattle.rows.specs.Columns.{andThenColumn, andThenClusterColumns, andThenPackageColumns}
+use Rattle.rows.specs.ListColumns.{andThenListColumns}
 
 module _ {R : Type 0} (ill : R) (x y : Line) (f : ℕ → R) (e : x ≡ y) where
   pub then-stop-line : x ≡ line.IllFormed → ill ≡ andThenLine ill y f
   then-stop-line h = rw (← e, h)
+
+  -- `ill` is what another reading finds
+  pub then-else-line : (r : R) → x ≡ line.IllFormed → r ≡ ill → r ≡ andThenLine ill y f
+  then-else-line r h g = rw (← e, h) g
 
   pub then-on-line : (next : Cursor) (r : R) → x ≡ line.Ends next → r ≡ f (next .at) → r ≡ andThenLine ill y f
   then-on-line next r h g = rw (← e, h) g
@@ -66,3 +74,8 @@ pub then-cases-package-columns : {R : Type 0} (P : R → Type 0) (ill : R) (y : 
     → ((columns : PackageColumns) → y ≡ package-read.Named columns → P (f columns)) → P (andThenPackageColumns ill y f)
 then-cases-package-columns P ill (package-read.Named columns) f i g = g columns refl
 then-cases-package-columns P ill package-read.IllFormed f i g = i
+
+pub then-cases-list-columns : {R : Type 0} (P : R → Type 0) (ill : R) (y : ListColumnsRead) (f : ListColumns → ℕ → R) → P ill
+    → ((columns : ListColumns) (next : Cursor) → y ≡ list-read.Named columns next → P (f columns (next .at))) → P (andThenListColumns ill y f)
+then-cases-list-columns P ill (list-read.Named columns next) f i g = g columns next refl
+then-cases-list-columns P ill list-read.IllFormed f i g = i

@@ -6,9 +6,13 @@ use Rattle.base.specs.Quoted.{bytes}
 use Rattle.text.specs.Word.{sameBytes}
 use Rattle.rows.specs.Field.{field, behindField}
 
--- "The names are `cluster`, `version`, `needs`, `least`"
+-- "The names are `cluster`, `version`, `needs`, `least`": those of a list of four names, and a package has them too
 abbrev pub clusterNames : List (List ℕ)
 clusterNames = bytes "cluster" ∷ bytes "version" ∷ bytes "needs" ∷ bytes "least" ∷ []
+
+-- A.2: "a fifth name in the cluster list and in our writer's order the last"
+abbrev pub listNames : List (List ℕ)
+listNames = bytes "cluster" ∷ bytes "version" ∷ bytes "needs" ∷ bytes "least" ∷ bytes "stays" ∷ []
 
 -- "a names line of `action`, `cluster`, `version`, `payload`, `sum`, `needs`, `least`"
 abbrev pub packageNames : List (List ℕ)

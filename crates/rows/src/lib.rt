@@ -2,4 +2,5 @@
 pub mod columns;
 mod field;
 pub mod line;
+pub mod list_columns;
 pub mod reader;

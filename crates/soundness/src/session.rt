@@ -51,8 +51,8 @@ fn actions_within(entries: [Entry; ENTRIES_MOST], count: usize) -> bool
     true
 }
 
-// Whether the beginning table and the first count of the listed actions are within their limits and the actions pass 11 to 15 in
-// turn. list_sound sees before that there is room for them.
+// Whether the beginning table and the first count of the listed actions are within their limits and the actions pass 11 to 15 and 21
+// in turn. list_sound sees before that there is room for them.
 pub fn session_sound(beginning: Table, entries: [Entry; ENTRIES_MOST], count: usize) -> bool
     requires { ⌜ count ≤ entriesMost ⌝ }
     ensures { λ r. ⌜ r ≡ tableWithin (viewTable beginning) && (actionsWithin (listedActions entries count) && passInTurn (viewTable beginning) [] (listedActions entries count)) ⌝ }

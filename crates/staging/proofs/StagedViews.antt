@@ -1,5 +1,5 @@
--- The staged and the running table as the model's: of a sound session, whose actions pass 11 to 15 in turn, each action is applied to a
--- table within its limits, and so it is applied to the list that the table stands for. Assumes nothing.
+-- The staged and the running table as the model's: of a sound session, whose actions pass 11 to 15 and 21 in turn, each action is applied
+-- to a table within its limits, and so it is applied to the list that the table stands for. Assumes nothing.
 use Prim.Native.Nat.{_≤_}
 use mathlib.Core.Path.{_≡_, refl, sym, ap, _∙_}
 use mathlib.Core.Bool.{true}

@@ -12,8 +12,8 @@ use Rattle.model.specs.Calls.{done, refused, accepted}
 use Rattle.model.specs.Step.{Outcome, outcome}
 use Rattle.model.specs.Load.{load}
 use Rattle.model.proofs.examples.Open.{computing}
-use Rattle.model.proofs.examples.Transcript.{line, listText, transfers, session, packageOf}
-use Rattle.model.proofs.examples.Samples.{cluster20, clusters}
+use Rattle.model.proofs.examples.Transcript.{line, fourNamesText, writtenText, transfers, session, packageOf}
+use Rattle.model.proofs.examples.Samples.{cluster20, marked20, clusters}
 
 -- the state that is handed to Load: it is given back when refused, whatever it holds. It is not sound, which Load does not ask
 abbrev given : State
@@ -39,10 +39,10 @@ badLoad room = record { reply = refused 20; state = given; store = replicate roo
 
 -- the list with cluster 20 alone; no list, for its version has three parts
 abbrev list : List ℕ
-list = listText "20,1.0.4.0,,"
+list = fourNamesText "20,1.0.4.0,,"
 
 abbrev noList : List ℕ
-noList = listText "20,1.0.4,,"
+noList = fourNamesText "20,1.0.4,,"
 
 -- value lines of as many clusters, from a part number on
 abbrev valueLines : ℕ → ℕ → List ℕ
@@ -66,6 +66,11 @@ cases =
     -- a store of 0 bytes, and the empty table
     ∷ loadCase list 1 0 (loads (cluster20 ∷ []) 1 0)
     ∷ loadCase (line "cluster,version,needs,least") 1 1 (loads [] 1 1)
+    -- "A four-name list still loads, with all marks 0": the same with five names, and with mark 1; no mark, and another one
+    ∷ loadCase (writtenText "20,1.0.4.0,,,0") 1 1 (loads (cluster20 ∷ []) 1 1)
+    ∷ loadCase (writtenText "20,1.0.4.0,,,1") 1 1 (loads (marked20 ∷ []) 1 1)
+    ∷ loadCase (writtenText "20,1.0.4.0,,,") 1 1 (badLoad 1)
+    ∷ loadCase (writtenText "20,1.0.4.0,,,2") 1 1 (badLoad 1)
     -- "at most 64 clusters"
     ∷ loadCase (listOf 64) 1 1 (loads (clusters 64 101) 1 1)
     ∷ loadCase (listOf 65) 1 1 (badLoad 1)

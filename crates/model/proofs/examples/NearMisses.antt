@@ -12,7 +12,7 @@ use Rattle.model.specs.Calls.{process, work, cancel, activate, rollback,
 use Rattle.model.specs.Tables.{running}
 use Rattle.model.specs.Run.{Run}
 use Rattle.model.proofs.examples.Open.{computing}
-use Rattle.model.proofs.examples.Transcript.{line, listText, packageText, Start, loadedFrom, loadedWith, _gives_, callsToTransfer, callsToProcess, callsToVerifying, Case, from_calls_, _ends_, HoldLooking}
+use Rattle.model.proofs.examples.Transcript.{line, fourNamesText, packageText, Start, loadedFrom, loadedWith, _gives_, callsToTransfer, callsToProcess, callsToVerifying, Case, from_calls_, _ends_, HoldLooking}
 use Rattle.model.proofs.examples.Samples.{cluster20, removeText}
 use Rattle.model.proofs.examples.BenchExamples.{installText, toReady, toVerifying}
 
@@ -32,7 +32,7 @@ loaded = loadedWith 1 200
 
 -- cluster 11 needs 20
 abbrev loadedDependent : Start
-loadedDependent = loadedFrom (listText "11,1.0.0.3,20,1.0.0.0" ++ line "20,1.0.4.0,,") 1 200
+loadedDependent = loadedFrom (fourNamesText "11,1.0.0.3,20,1.0.0.0" ++ line "20,1.0.4.0,,") 1 200
 
 abbrev wrongSumText : List ℕ
 wrongSumText = packageText "remove,20,,0,1,," ""

@@ -11,12 +11,11 @@ use Rattle.text.specs.Version.{version}
 use Rattle.clusters.specs.Cluster.{cluster}
 use Rattle.actions.specs.Action.{install, update, remove}
 use Rattle.model.specs.State.{transferring, transferred, verifying}
-use Rattle.model.specs.State as states
 use Rattle.model.specs.Calls.{Call, transferStart, transferData, transferExit, deleteTransfer, process, work, cancel, revert, activate, rollback, finish, report, givenId, done}
 use Rattle.model.specs.Run.{Made}
 use Rattle.model.proofs.examples.Open.{computing}
 use Rattle.model.proofs.examples.Transcript.{packageText, packageOf, Start, loadedWith, _gives_, _isRefusedBy_, Answered, from_calls_, Hold}
-use Rattle.model.proofs.examples.Samples.{cluster20, updated20, cluster30, clusters, updateText, removeText, illFormedText, longText, shortText, bothText, begun, inPhase, idleWith, idleFrom, idleHolding, readyWith, eachStart, unsound, unsoundIdle}
+use Rattle.model.proofs.examples.Samples.{cluster20, updated20, cluster30, marked20, clusters, updateText, removeText, illFormedText, longText, shortText, bothText, begun, inPhase, idleWith, idleFrom, idleHolding, readyWith, eachStart, unsound, unsoundIdle}
 
 -- ---- the calls
 
@@ -173,7 +172,25 @@ fullAgain =
     (remove 101 ∷ install cluster30 ∷ [])
     (packageText "install,101,1.0.0.0,0,0,," "" ∷ packageText "install,31,1.0.0.0,0,0,," "" ∷ [])
 
--- Process: 2, 3, 4, 5, 9, 10, 11, 12, 13, 14, 15
+-- Idle with 20 marked and 30 not; the packages are Transferred
+abbrev markedStart : Start
+markedStart =
+    idleFrom
+    (marked20 ∷ cluster30 ∷ [])
+    transferred
+    (removeText
+    ∷ packageText "remove,30,,0,0,," ""
+    ∷ packageText "remove,50,,0,0,," ""
+    ∷ packageText "install,20,2.0.0.0,0,0,," ""
+    ∷ packageText "update,20,1.0.4.0,0,0,," ""
+    ∷ packageText "remove,20,,0,0,," "a"
+    ∷ [])
+
+-- a session in which 20, marked, is raised; the package 2 removes it
+abbrev markedRaised : Start
+markedRaised = readyWith (marked20 ∷ []) (update updated20 ∷ []) (removeText ∷ [])
+
+-- Process: 2, 3, 4, 5, 9, 10, 11, 12, 13, 21, 14, 15
 abbrev ofProcess : List Answered
 ofProcess =
     -- 2 and 3, and with 4 and 5 too
@@ -236,6 +253,18 @@ ofProcess =
     ∷ process 7 isRefusedBy 10
     ∷ process 8 isRefusedBy 10
     ∷ [])
+    -- 21 of a remove of the marked cluster alone; 13, 12 and 14 beside a mark; 10 and 21
+    ∷ from markedStart
+    calls
+    (process 1 isRefusedBy 21
+    ∷ process 3 isRefusedBy 13
+    ∷ process 4 isRefusedBy 12
+    ∷ process 5 isRefusedBy 14
+    ∷ process 6 isRefusedBy 10
+    ∷ process 2 gives done
+    ∷ [])
+    -- 11 and 21
+    ∷ from markedRaised calls (process 2 isRefusedBy 11 ∷ [])
     -- 15; 12 and 15; with 64 staged 13 and 14 as ever
     ∷ from fullStart calls (process 1 isRefusedBy 15 ∷ process 2 isRefusedBy 12 ∷ process 3 isRefusedBy 13 ∷ process 4 isRefusedBy 14 ∷ [])
     -- 11 and 15; 15

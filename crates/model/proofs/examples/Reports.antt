@@ -14,7 +14,7 @@ use Rattle.actions.specs.Action.{install, update, remove}
 use Rattle.model.specs.State.{transferring, transferred, beingProcessed, processed, verifyingRollsBack, activatedRollsBack, readyCleansUp, activatedCleansUp, rolledBackCleansUp, ready, processing, activating, verifying, activated, rollingBack, rolledBack, cleaningUp, state}
 use Rattle.model.specs.Reading.{ReadingReply, refusedBy, shortBuffer, given, replyNumber, Report, packagesReport, clusterInfoReport, changeInfoReport, PackageRecord, payloadReply, payload, payloadCheck, progress}
 use Rattle.model.proofs.examples.Open.{computing}
-use Rattle.model.proofs.examples.Transcript.{line, listText, packageText, packageOf, transfers, session, entry, kept, Start, start, loadedFrom}
+use Rattle.model.proofs.examples.Transcript.{line, writtenText, packageText, packageOf, transfers, session, entry, kept, Start, start, loadedFrom}
 use Rattle.model.proofs.examples.Samples.{cluster20, cluster30, updated20, updateText, removeText, illFormedText, longText, shortText, bothText, idleWith, idleHolding, readyWith, eachStart, unsound, unsoundIdle, sessionIn}
 
 -- ---- what is asked and what is given
@@ -96,31 +96,37 @@ ofPackages =
 
 -- the tables of the session of two packages: the beginning one and the staged one
 abbrev beginningText : List ℕ
-beginningText = listText "20,1.0.4.0,,"
+beginningText = writtenText "20,1.0.4.0,,,0"
 
 abbrev stagedText : List ℕ
-stagedText = listText "20,1.0.5.0,," ++ line "30,1.0.0.0,20,1.0.5.0"
+stagedText = writtenText "20,1.0.5.0,,,0" ++ line "30,1.0.0.0,20,1.0.5.0,0"
 
 abbrev saysBeginning : List Reading
-saysBeginning = clusterInfo 63 is text (given 41) (beginningText ++ lent 22) ∷ []
+saysBeginning = clusterInfo 73 is text (given 49) (beginningText ++ lent 24) ∷ []
 
 abbrev saysStaged : List Reading
-saysStaged = clusterInfo 63 is text (given 63) stagedText ∷ []
+saysStaged = clusterInfo 73 is text (given 73) stagedText ∷ []
 
--- what document 01 says that `clist` prints
+-- what `clist` prints for document 01's example, with the name and the two marks that A.2 adds
 abbrev printedText : List ℕ
-printedText = listText "11,1.0.0.3,20,1.0.0.0" ++ line "20,1.0.4.0,,"
+printedText = writtenText "11,1.0.0.3,20,1.0.0.0,0" ++ line "20,1.0.4.0,,,0"
+
+-- a list with marks
+abbrev markedText : List ℕ
+markedText = writtenText "20,1.0.4.0,,,1" ++ line "21,1.0.0.0,20,1.0.0.0,0" ++ line ",,20,1.0.4.0,"
 
 abbrev ofClusterInfo : List ReadingCase
 ofClusterInfo =
     -- exact room, and bytes behind; one less
     from loadedFrom (line "version,cluster,least,needs" ++ (line "1.0.0.3,11,1.0.0.0,20" ++ line "1.0.4.0,20,,")) 1 9
     reads
-    (clusterInfo 63 is text (given 63) printedText
-    ∷ clusterInfo 65 is text (given 63) (printedText ++ lent 2)
-    ∷ clusterInfo 62 is text (shortBuffer 63) (lent 62)
-    ∷ clusterInfo 0 is text (shortBuffer 63) []
+    (clusterInfo 73 is text (given 73) printedText
+    ∷ clusterInfo 75 is text (given 73) (printedText ++ lent 2)
+    ∷ clusterInfo 72 is text (shortBuffer 73) (lent 72)
+    ∷ clusterInfo 0 is text (shortBuffer 73) []
     ∷ [])
+    -- a mark 1, a mark 0, and a need line that leaves it empty
+    ∷ from loadedFrom markedText 1 9 reads (clusterInfo 87 is text (given 87) markedText ∷ [])
     -- "ClusterInfo writes the running table as text", in each manager's state
     ∷ from idleWith [] 1 0 reads saysBeginning
     ∷ from eachStart reads saysBeginning

@@ -1,13 +1,13 @@
 -- States and stores that the tables of cases begin with, written out. Each is sound but where it says that it is not. The store's bytes
 -- play no part in that, so an area that no call reads holds no package text.
 use Prim.Native.Nat.{ℕ, zero, suc, _+_}
-use mathlib.Core.Bool.{false}
+use mathlib.Core.Bool.{true, false}
 use mathlib.Core.List.{List, [], _∷_, _++_, map}
 use mathlib.Core.Option.{none, some}
 use lib.ListN.{length, replicate}
 use Rattle.base.specs.Quoted.{bytes}
 use Rattle.text.specs.Version.{version}
-use Rattle.clusters.specs.Cluster.{Cluster, cluster, need}
+use Rattle.clusters.specs.Cluster.{Cluster, cluster, withMark, need}
 use Rattle.clusters.specs.Table.{Table}
 use Rattle.actions.specs.Action.{Action, install, update, remove}
 use Rattle.model.specs.State.{PackageState, transferring, transferred, beingProcessed, processed, Package, Phase, idle, ready, processing, Entry, State, Store, state}
@@ -28,6 +28,13 @@ cluster30 = cluster 30 (version 1 0 0 0) []
 
 abbrev pub dependent30 : Cluster
 dependent30 = cluster 30 (version 1 0 0 0) (need 20 (version 1 0 5 0) ∷ [])
+
+-- the first of these, marked; raised
+abbrev pub marked20 : Cluster
+marked20 = withMark cluster20 true
+
+abbrev pub markedUpdated20 : Cluster
+markedUpdated20 = withMark updated20 true
 
 -- as many clusters, from a part number on
 abbrev pub clusters : ℕ → ℕ → Table

@@ -16,7 +16,7 @@ use Rattle.model.specs.State.{PackageState, transferring, transferred, b
 use Rattle.model.specs.Sound.{soundFor}
 use Rattle.model.proofs.examples.Open.{computing}
 use Rattle.model.proofs.examples.Transcript.{packageOf, transfers, session, entry, kept}
-use Rattle.model.proofs.examples.Samples.{cluster20, updated20, cluster30, clusters, begun, complete, listedFrom}
+use Rattle.model.proofs.examples.Samples.{cluster20, updated20, cluster30, marked20, markedUpdated20, clusters, begun, complete, listedFrom}
 
 -- a state, the length of a store, and whether they are sound
 pub record Judged : Type 0 where
@@ -67,8 +67,11 @@ needing n = onCluster 20 v1 (n ∷ [])
 
 abbrev ofTable : List Judged
 ofTable =
+    -- "a mark, `stays`, 0 or 1"
+    sound (onTable (marked20 ∷ []))
+    ∷ sound (onTable (cluster20 ∷ []))
     -- "a part number 1 to 4,294,967,295"
-    unsound (onCluster 0 v1 [])
+    ∷ unsound (onCluster 0 v1 [])
     ∷ sound (onCluster 1 v1 [])
     ∷ sound (onCluster 4294967295 v1 [])
     ∷ unsound (onCluster 4294967296 v1 [])
@@ -156,7 +159,7 @@ ofPackages =
 abbrev listed : List Action → List Package
 listed actions = complete processed 1 (map (λ a. 0 ∷ []) actions)
 
--- an action behind others of a session, and whether it is within its limits and passes 11 to 15
+-- an action behind others of a session, and whether it is within its limits and passes 11 to 15 and 21
 pub record ActionCase : Type 0 where
   pub beginning : Table
   pub earlier : List Action
@@ -190,7 +193,7 @@ asKept c =
 abbrev table20 : Table
 table20 = cluster20 ∷ []
 
--- "the listed actions .. pass 11 to 15 in turn"; "one package is Processing, with an action that passes them"
+-- "the listed actions .. pass 11 to 15 in turn"; "one package is Processing, with an action that passes them"; A.2: 21 beside them
 abbrev actionCases : List ActionCase
 actionCases =
     -- the limits of a cluster, of an install and of an update
@@ -225,6 +228,15 @@ actionCases =
     ∷ passing (clusters 63 101) [] (install cluster30)
     ∷ failing (clusters 63 101) (install cluster20 ∷ []) (install cluster30)
     ∷ passing (clusters 64 101) (remove 101 ∷ []) (install cluster30)
+    -- 21, of a listed and of a kept remove; marks of other clusters, and of updates and installs, hinder nothing
+    ∷ failing (marked20 ∷ []) [] (remove 20)
+    ∷ failing (marked20 ∷ cluster30 ∷ []) (remove 30 ∷ []) (remove 20)
+    ∷ passing (marked20 ∷ cluster30 ∷ []) [] (remove 30)
+    ∷ passing (marked20 ∷ []) [] (update updated20)
+    ∷ passing (marked20 ∷ []) (update updated20 ∷ []) (install cluster30)
+    -- the mark of an action's own cluster plays no part
+    ∷ passing table20 [] (update markedUpdated20)
+    ∷ passing [] [] (install marked20)
     -- in turn: what fails is not mended by what follows
     ∷ failing (clusters 64 101) (install cluster30 ∷ []) (remove 101)
     ∷ []

@@ -20,9 +20,13 @@ use Rattle.model.specs.Run.{Made, Run, run, callsOf}
 abbrev pub line : String → List ℕ
 line words = bytes words ++ LF ∷ []
 
--- a list with one value line
-abbrev pub listText : String → List ℕ
-listText values = line "cluster,version,needs,least" ++ line values
+-- a list of four names with one value line
+abbrev pub fourNamesText : String → List ℕ
+fourNamesText values = line "cluster,version,needs,least" ++ line values
+
+-- a list of five names with one value line: our writer's
+abbrev pub writtenText : String → List ℕ
+writtenText values = line "cluster,version,needs,least,stays" ++ line values
 
 -- a package with one value line
 abbrev pub packageText : String → String → List ℕ
@@ -72,7 +76,7 @@ loadedFrom list first room = let o = load (loadedState [] 1) list first (replica
 
 -- the same of a list with one cluster, 20 at 1.0.4.0
 abbrev pub loadedWith : ℕ → ℕ → Start
-loadedWith first room = loadedFrom (listText "20,1.0.4.0,,") first room
+loadedWith first room = loadedFrom (fourNamesText "20,1.0.4.0,,") first room
 
 -- ---- transcripts
 

@@ -92,23 +92,39 @@ return-is j ok (ends g) i p q = unfold runningIn in ends-return j g (i .tables) 
 
 -- ---- every other call
 
--- the beginning table stays, but at the end of CleaningUp
+-- the table that begins the next session
+next-beginning : {session : Session} {origin : CleanUpOrigin} {table : Table} → Ends session origin table
+    → (table ≡ session .beginning) ⊎ (table ≡ staged session)
+next-beginning afterRevert = inl refl
+next-beginning afterFinish = inr refl
+next-beginning afterRollback = inl refl
+
+-- the beginning table stays, but at the end of CleaningUp, where it stays too or the staged one begins the next session
+pub beginning-after : {s : State} {store : Store} {call : Call} {o : Outcome} → Accepted s store call o
+    → (o .state .session .beginning ≡ s .session .beginning)
+    ⊎ ((isIdle (s .phase) ≡ false) × (isIdle (o .state .phase) ≡ true)
+    × ((o .state .session .beginning ≡ s .session .beginning) ⊎ (o .state .session .beginning ≡ staged (s .session))))
+unfolding cleanedUp
+beginning-after (starts size h7 h16 h17 h18) = inl refl
+beginning-after (putsBlock id counter block y e h5 h6 h7 h) = inl refl
+beginning-after (exits id y m e h5 h8 h9) = inl refl
+beginning-after (deletes id y e h5 h) = inl refl
+beginning-after (processes id y m rest e h5 h9 h) = inl refl
+beginning-after (worksOn w n c l) = inl refl
+beginning-after (leaves w n f) = inl refl
+beginning-after (completes w n c l e) = inl refl
+beginning-after (cancels w id e) = inl refl
+beginning-after (moves g) = inl refl
+beginning-after (ends g) = inr (refl, refl, next-beginning g)
+
 pub beginning-stays : {s : State} {store : Store} {call : Call} {o : Outcome} → Accepted s store call o
     → (isIdle (s .phase) ≡ true) ⊎ (isIdle (o .state .phase) ≡ false)
     → o .state .session .beginning ≡ s .session .beginning
-unfolding cleanedUp
-beginning-stays (starts size h7 h16 h17 h18) q = refl
-beginning-stays (putsBlock id counter block y e h5 h6 h7 h) q = refl
-beginning-stays (exits id y m e h5 h8 h9) q = refl
-beginning-stays (deletes id y e h5 h) q = refl
-beginning-stays (processes id y m rest e h5 h9 h) q = refl
-beginning-stays (worksOn w n c l) q = refl
-beginning-stays (leaves w n f) q = refl
-beginning-stays (completes w n c l e) q = refl
-beginning-stays (cancels w id e) q = refl
-beginning-stays (moves g) q = refl
-beginning-stays (ends g) (inl e) = absurd (false≢true e)
-beginning-stays (ends g) (inr e) = absurd (true≢false e)
+beginning-stays a q =
+    elim (beginning-after a) [
+      | inl e ↦ e
+      | inr ended ↦ elim q [ inl e ↦ clash e (ended .0) | inr e ↦ clash (ended .1) e ]
+    ]
 
 -- in Idle the running table is the one that begins the next session
 pub idle-table : (phase : Phase) (session : Session) → isIdle phase ≡ true → runningIn phase session ≡ session .beginning

@@ -8,35 +8,38 @@ use lib.ListN.{length, replicate}
 use Rattle.clusters.specs.Table.{Table, tableWithin}
 use Rattle.cluster_list.specs.Read.{readList}
 use Rattle.cluster_list.proofs.RoundTrip.{list-back}
-use Rattle.model.specs.State.{Phase, idle, ready, processing, activating, verifying, activated, rollingBack, rolledBack, cleaningUp, readyCleansUp, activatedCleansUp, rolledBackCleansUp, State, Store}
-use Rattle.model.specs.Tables.{runningIn, running}
+use Rattle.model.specs.State.{Phase, idle, ready, processing, activating, verifying, activated, rollingBack, rolledBack, cleaningUp, readyCleansUp, activatedCleansUp, rolledBackCleansUp, Session, State, Store}
+use Rattle.model.specs.Tables.{staged, runningIn, running}
 use Rattle.model.specs.Calls.{done}
 use Rattle.model.specs.Sound.{storeMost, idMost, sound}
 use Rattle.model.specs.Step.{outcome}
 use Rattle.model.specs.Load.{tableOrEmpty, loadedState, load}
 use Rattle.model.specs.Reading.{clusterInfo}
-use Rattle.model.proofs.soundness.SoundFacts.{Sound, sound-says}
+use Rattle.model.proofs.soundness.SoundFacts.{sound-says}
 use Rattle.model.proofs.soundness.SoundSession.{staged-within}
 use Rattle.model.proofs.soundness.LoadSound.{load-is, loads-is}
 
-module _ (s : State) (store : Store) where
-  in-phase : Sound s store → (phase : Phase) → tableWithin (runningIn phase (s .session)) ≡ true
-  unfolding runningIn
-  in-phase ok idle = ok .beginning
-  in-phase ok ready = ok .beginning
-  in-phase ok processing = ok .beginning
-  in-phase ok activating = ok .beginning
-  in-phase ok verifying = staged-within s store ok
-  in-phase ok activated = staged-within s store ok
-  in-phase ok (rollingBack origin) = staged-within s store ok
-  in-phase ok rolledBack = ok .beginning
-  in-phase ok (cleaningUp readyCleansUp) = ok .beginning
-  in-phase ok (cleaningUp activatedCleansUp) = staged-within s store ok
-  in-phase ok (cleaningUp rolledBackCleansUp) = ok .beginning
+-- what holds of the beginning and of the staged table holds of the running one
+pub of-running : (P : Table → Type 0) (session : Session) → P (session .beginning) → P (staged session) → (phase : Phase) → P (runningIn phase session)
+unfolding runningIn
+of-running P session old new idle = old
+of-running P session old new ready = old
+of-running P session old new processing = old
+of-running P session old new activating = old
+of-running P session old new verifying = new
+of-running P session old new activated = new
+of-running P session old new (rollingBack origin) = new
+of-running P session old new rolledBack = old
+of-running P session old new (cleaningUp readyCleansUp) = old
+of-running P session old new (cleaningUp activatedCleansUp) = new
+of-running P session old new (cleaningUp rolledBackCleansUp) = old
 
+module _ (s : State) (store : Store) where
   pub running-within : sound s store ≡ true → tableWithin (running s) ≡ true
   unfolding running
-  running-within h = in-phase (sound-says s store h) (s .phase)
+  running-within h =
+      let ok = sound-says s store h in
+      of-running (λ t. tableWithin t ≡ true) (s .session) (ok .beginning) (staged-within s store ok) (s .phase)
 
 -- what a sound state's ClusterInfo gives is loaded, and its table is the running one
 module _ (s : State) (store : Store) (h : sound s store ≡ true) where

@@ -19,25 +19,25 @@ use Rattle.manifest.specs.Package.{Manifest, PackageRead, consistent}
 use Rattle.manifest.specs.Refused.{isIllFormed, isInconsistent}
 use Rattle.model.specs.State.{transferred, beingProcessed, Package, CleanUpOrigin, Phase, processing, cleaningUp, isProcessing, Transfers, Session, Work, State, state, Store, actions}
 use Rattle.model.specs.State as states
-use Rattle.model.specs.Calls.{Call, callNumber, transferStart, transferData, transferExit, deleteTransfer, process, work, cancel, report, Answer, working, processed}
+use Rattle.model.specs.Calls.{Call, callNumber, transferStart, transferData, transferExit, deleteTransfer, process, work, cancel, report, Answer, working, processed, refused}
 use Rattle.model.specs.Calls as calls
 use Rattle.model.specs.Permissions.{allowed}
 use Rattle.model.specs.Areas.{free, find, areaOf, isTransferring, isTransferred, isBeingProcessed, isProcessed, processingId, inState, changed}
 use Rattle.model.specs.Tables.{staged}
 use Rattle.model.specs.Sound.{packagesMost, idMost, sound}
-use Rattle.model.specs.Step.{Outcome, outcome, areaRead, manifestOf, ownRefusals, furtherRefusals, withPackages, workAtStart, taken, workOn, endsProcessing, listedWith, sumCompared, worked, cleanedUp, reportOutcome, act, unlessRefused, step}
+use Rattle.model.specs.Step.{Outcome, outcome, areaRead, manifestOf, ownRefusals, refusals, furtherRefusals, withPackages, workAtStart, taken, workOn, endsProcessing, listedWith, sumCompared, worked, cleanedUp, reportOutcome, act, unlessRefused, step}
 use Rattle.model.proofs.soundness.Packages.{found-known, found-is}
 use Rattle.model.proofs.soundness.Accepted.{passed-over, sound-decided}
 use Rattle.model.proofs.soundness.SoundSession.{each-phase, allowedAt}
 use Rattle.model.specs.Accepted.{Applicable, AtRest, inIdle, inReady, Moves, reverts, activates, rollsBackVerifying, rollsBackActivated, finishesActivated, finishesRolledBack, activationFails, needsMissing, activationSucceeds, verificationSucceeds, verificationFails, rollbackSucceeds, rollbackFails, revertFails, cleaningActivatedFails, cleaningRolledBackFails, Ends, afterRevert, afterFinish, afterRollback, Leaves, byCancel, bySum, Accepted, starts, putsBlock, exits, deletes, processes, worksOn, leaves, completes, cancels, moves, ends}
 use Rattle.model.proofs.transitions.Passing.{applicable-passes}
 use Rattle.model.proofs.transitions.Accepting.{accepted-is}
-use Rattle.model.proofs.transitions.Refused.{step-cases}
+use Rattle.model.proofs.transitions.Refused.{step-cases, refused-by-the-first}
 
 -- ---- a call that no refusal stops
 
 -- behind a refusal that does not apply
-goes-on : (r : Refusal) (rs : List Refusal) → r .applies ≡ false → firstRefusal rs ≡ none → firstRefusal (r ∷ rs) ≡ none
+goes-on : {x : Option ℕ} (r : Refusal) (rs : List Refusal) → r .applies ≡ false → firstRefusal rs ≡ x → firstRefusal (r ∷ rs) ≡ x
 goes-on r rs h e = passed-over r rs h ∙ e
 
 nothing-left : firstRefusal [] ≡ none
@@ -45,12 +45,16 @@ unfolding firstRefusal
 nothing-left = refl
 
 module _ (s : State) (store : Store) (h : sound s store ≡ true) where
+  -- past 1, 2 and 3
+  decided : {x : Option ℕ} (call : Call) → eqb (callNumber call) 4 && isProcessing (s .phase) ≡ false → allowed (s .phase) call ≡ true
+      → firstRefusal (ownRefusals s store call) ≡ x → firstRefusal (refusals s store call) ≡ x
+  unfolding furtherRefusals
+  decided call busy may own = sound-decided s store call h ∙ goes-on _ _ busy (goes-on _ _ (ap not may) own)
+
   does : (call : Call) → eqb (callNumber call) 4 && isProcessing (s .phase) ≡ false → allowed (s .phase) call ≡ true
       → firstRefusal (ownRefusals s store call) ≡ none → step s store call ≡ act s store call
-  unfolding step furtherRefusals
-  does call busy may own =
-      ap (λ (r : Option ℕ). unlessRefused s store r (act s store call))
-      (sound-decided s store call h ∙ goes-on _ _ busy (goes-on _ _ (ap not may) own))
+  unfolding step
+  does call busy may own = ap (λ (r : Option ℕ). unlessRefused s store r (act s store call)) (decided call busy may own)
 
 -- ---- the calls of the packages
 
@@ -102,21 +106,32 @@ module _ (s : State) (store : Store) (h : sound s store ≡ true) where
         does s store h (deleteTransfer id) refl (each-phase (allowedAt 3) refl (s .phase))
         (goes-on _ _ (found-known id ps p e) (goes-on _ _ (rw (found-is id ps p e, being, done)) nothing-left))
 
-  does-process : (id : ℕ) (p : Package) (m : Manifest) → AtRest (s .phase) → find id ps ≡ some p → isTransferred (p .state) ≡ true
-      → areaRead s store id ≡ consistent m → Applicable (staged (s .session)) (actions (s .session .listed)) (m .action)
-      → step s store (process id) ≡ act s store (process id)
-  unfolding ownRefusals passes
-  does-process id p m rest e h5 h9 h11 =
-      let allows = at-rest (s .phase) rest id in
-      does s store h (process id) (allows .0) (allows .1)
-      (goes-on _ _ (found-known id ps p e)
-      (goes-on _ _ (rw (found-is id ps p e, h5))
-      (goes-on _ _ (ap isIllFormed h9)
-      (goes-on _ _ (ap isInconsistent h9)
-      (ap
-      (λ (read : PackageRead). firstRefusal (actionRefusals (staged (s .session)) (actions (s .session .listed)) (manifestOf read .action)))
-      h9
-      ∙ accepted-none _ (applicable-passes _ _ h11))))))
+  -- Process past 1 to 10 is decided by the refusals of the package's action
+  module _ (id : ℕ) (p : Package) (m : Manifest) (rest : AtRest (s .phase)) (e : find id ps ≡ some p) (h5 : isTransferred (p .state) ≡ true)
+      (h9 : areaRead s store id ≡ consistent m) where
+    process-decided : {x : Option ℕ} → firstRefusal (actionRefusals (staged (s .session)) (actions (s .session .listed)) (m .action)) ≡ x
+        → firstRefusal (refusals s store (process id)) ≡ x
+    unfolding ownRefusals
+    process-decided decides =
+        let allows = at-rest (s .phase) rest id in
+        decided s store h (process id) (allows .0) (allows .1)
+        (goes-on _ _ (found-known id ps p e)
+        (goes-on _ _ (rw (found-is id ps p e, h5))
+        (goes-on _ _ (ap isIllFormed h9)
+        (goes-on _ _ (ap isInconsistent h9)
+        (ap
+        (λ (read : PackageRead). firstRefusal (actionRefusals (staged (s .session)) (actions (s .session .listed)) (manifestOf read .action)))
+        h9
+        ∙ decides)))))
+
+    does-process : Applicable (staged (s .session)) (actions (s .session .listed)) (m .action) → step s store (process id) ≡ act s store (process id)
+    unfolding step passes
+    does-process h11 =
+        ap (λ (r : Option ℕ). unlessRefused s store r (act s store (process id))) (process-decided (accepted-none _ (applicable-passes _ _ h11)))
+
+    pub process-refused : (number : ℕ) → firstRefusal (actionRefusals (staged (s .session)) (actions (s .session .listed)) (m .action)) ≡ some number
+        → step s store (process id) .reply ≡ refused number
+    process-refused number decides = refused-by-the-first s store (process id) number .1 (process-decided decides)
 
 -- ---- the calls of the session
 

@@ -4,11 +4,12 @@ use mathlib.Core.Path.{_≡_, sym, ap, _∙_}
 use Prim.Native.Nat.{_≤_}
 use borrow.Author.Tests.{le-leb, lt-leb}
 use Rattle.base.proofs.Tests.{cond-true, cond-false}
+use Rattle.clusters.specs.declared.cluster.Cluster.{Cluster}
 use Rattle.clusters.specs.declared.table.Table.{Table}
 use Rattle.actions.specs.declared.action.Change.{Change}
 use Rattle.actions.specs.declared.action.Action.{Action}
 use Rattle.clusters.specs.Table.{clustersMost}
-use Rattle.actions.specs.Exact.{change, apply}
+use Rattle.actions.specs.Exact.{insert, change, apply}
 use Rattle.actions.proofs.action.apply.Statement.{statement}
 use Rattle.actions.proofs.action.apply.Tie as tie
 
@@ -30,6 +31,9 @@ returns-2 c =
     let e : apply (s .before .args .a) (s .before .args .t) ≡ _ = applied _ _ _ (s .if1 .left) (c .before .enum-told .given .1) in
     sym (e ∙ cond-true _ _ (le-leb _ _ (c .if2 .taken)))
 
+with-mark-requires : tie.Need-with-mark-requires
+with-mark-requires c κs = search needs
+
 insert-requires : tie.Need-insert-requires
 insert-requires c κs = search needs
 
@@ -47,8 +51,11 @@ take-out-requires c κs = search needs
 
 returns-3 : tie.Need-returns-3
 returns-3 c =
-    let s = c .before .before .before .before .before in
-    c .insert .ensures ∙ sym (applied (s .before .args .a) (s .before .args .t) _ (s .if1 .left) (c .before .before .enum-told .given .1) ∙ cond-false _ _ (lt-leb _ _ (c .before .if2 .left)))
+    let k = c .before in
+    let s = k .before .before .before .before .before in
+    let t = s .before .args .t in
+    c .insert .ensures ∙ ap (λ (new : Cluster). insert new t) (k .with-mark .ensures)
+    ∙ sym (applied (s .before .args .a) t _ (s .if1 .left) (k .before .before .enum-told .given .1) ∙ cond-false _ _ (lt-leb _ _ (k .before .if2 .left)))
 
 returns-4 : tie.Need-returns-4
 returns-4 c =
@@ -67,6 +74,7 @@ apply-spec =
     returns
     enum-told
     returns-2
+    with-mark-requires
     insert-requires
     enum-told-2
     replace-requires

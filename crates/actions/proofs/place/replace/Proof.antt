@@ -1,4 +1,4 @@
--- `actions::place::replace` meets its contract: the store at the place found. Assumes nothing.
+-- `actions::place::replace` meets its contract: the store at the place found, with the mark that was read there. Assumes nothing.
 use borrow.Author.Needs.{needs}
 use native.Mathlib.Omega.{arith}
 use mathlib.Core.Path.{_≡_, sym, ap, _∙_}
@@ -8,6 +8,7 @@ use Rattle.base.proofs.Counted.{unmapped}
 use Rattle.clusters.specs.declared.cluster.Cluster.{Cluster}
 use Rattle.clusters.specs.declared.table.Table.{Table}
 use Rattle.place_in_list.specs.declared.Found.{Found}
+use Rattle.clusters.specs.Exact.{putAt}
 use Rattle.actions.specs.Exact.{replaceAt, replace}
 use Rattle.clusters.proofs.Arrays.{set-put}
 use Rattle.clusters.proofs.Placing.{FoundIn, found-in}
@@ -36,19 +37,30 @@ returns c =
     let s = c .before .before .before in
     ap (λ (f : Found). replaceAt f (s .args .c) (s .args .t)) (sym (sym (c .before .before .find .ensures .0) ∙ c .enum-told .given .1))
 
+mul-old : tie.Need-mul-old
+mul-old c = omega (arith, found (c .before) .below)
+
+array-copy-out-old : tie.Need-array-copy-out-old
+array-copy-out-old c = omega (arith, found (c .before) .below)
+
+with-mark-requires : tie.Need-with-mark-requires
+with-mark-requires c κs = search needs
+
 mul-clusters : tie.Need-mul-clusters
-mul-clusters c = omega (arith, found (c .before) .below)
+mul-clusters c = omega (arith, found (c .before .before .before) .below)
 
 array-set-from-clusters : tie.Need-array-set-from-clusters
-array-set-from-clusters c = omega (arith, found (c .before) .below)
+array-set-from-clusters c = omega (arith, found (c .before .before .before) .below)
 
 returns-2 : tie.Need-returns-2
 unfolding replace
 returns-2 c =
-    let k = c .before in
+    let k = c .before .before .before in
     let s = k .before .before .before .before in
     let t = s .args .t in
-    ap {B = Table} (λ (clusters : List Cluster). record { clusters = clusters; count = t .count }) (set-put (t .clusters) (k .before .place .given .0 .0) (s .args .c) (omega (arith, found k .below, long s)))
+    let place = k .before .place .given .0 .0 in
+    ap {B = Table} (λ (clusters : List Cluster). record { clusters = clusters; count = t .count })
+    (set-put (t .clusters) place (c .with-mark .result) (omega (arith, found k .below, long s)) ∙ ap (λ (new : Cluster). putAt place new (t .clusters)) (c .with-mark .ensures))
     ∙ ap (λ (f : Found). replaceAt f (s .args .c) t) (sym (sym (k .before .before .before .find .ensures .0) ∙ k .before .place .given .1))
 
 pub replace-spec : {M : Type 1} → statement M
@@ -59,6 +71,9 @@ replace-spec =
     enum-known-place
     enum-told
     returns
+    mul-old
+    array-copy-out-old
+    with-mark-requires
     mul-clusters
     array-set-from-clusters
     returns-2)

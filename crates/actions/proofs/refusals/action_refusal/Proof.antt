@@ -1,4 +1,4 @@
--- `actions::refusals::action_refusal` meets its contract: 11 by the list, 12 to 15 by what the table has under the part number. Assumes nothing.
+-- `actions::refusals::action_refusal` meets its contract: 11 by the list, 12 to 15 and 21 by what the table has under the part number. Assumes nothing.
 use borrow.Author.Needs.{needs}
 use mathlib.Core.Path.{_≡_, refl, sym, _∙_}
 use lib.ListN.{length}

@@ -36,7 +36,7 @@ returns-2 c staged d e v = by-change (oldVersion staged) _ Install d _ (c .enum-
 returns-3 : tie.Need-returns-3
 returns-3 c staged d e v =
     by-change (oldVersion staged) _ Update d _ (c .before .enum-told3 .given .1)
-    (ap not (c .above .ensures) ∙ old-update staged d _ _ v (sym (c .before .before .before .before .staged .given .1) ∙ e))
+    (ap not (c .above .ensures) ∙ old-update staged d _ _ _ v (sym (c .before .before .before .before .staged .given .1) ∙ e))
 
 returns-4 : tie.Need-returns-4
 unfolding oldVersion

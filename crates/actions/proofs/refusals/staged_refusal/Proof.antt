@@ -4,11 +4,14 @@ use Rattle.base.proofs.RefusalNumbers.{numbers}
 use Rattle.actions.proofs.refusals.staged_refusal.Statement.{statement}
 use Rattle.actions.proofs.refusals.staged_refusal.Tie as tie
 
--- the places before the tests for 13, 14 and 15, where the test before it was asked
+-- the places before the tests for 13, 21, 14 and 15, where the test before it was asked
 abbrev before-13 : tie.After-cluster-absent → tie.After-cluster-present
 before-13 k = k .before .before
 
-abbrev before-14 : tie.After-old-version → tie.After-cluster-absent
+abbrev before-21 : tie.After-cluster-stays → tie.After-cluster-absent
+before-21 k = k .before .before
+
+abbrev before-14 : tie.After-old-version → tie.After-cluster-stays
 before-14 k = k .before .before
 
 abbrev before-15 : tie.After-table-full → tie.After-old-version
@@ -28,31 +31,57 @@ returns-2 c staged d e v =
     let k = c .before in
     search (numbers, before-13 k .cluster-present .ensures staged d e, k .cluster-absent .ensures staged d e)
 
-old-version-requires : tie.Need-old-version-requires
-old-version-requires c κs = search needs
+cluster-stays-requires : tie.Need-cluster-stays-requires
+cluster-stays-requires c κs = search needs
 
 returns-3 : tie.Need-returns-3
 returns-3 c staged d e v =
     let k = c .before in
-    let j = before-14 k in
-    search (numbers, before-13 j .cluster-present .ensures staged d e, j .cluster-absent .ensures staged d e, k .old-version .ensures staged d e v) depth 6
+    let j = before-21 k in
+    search (numbers, before-13 j .cluster-present .ensures staged d e, j .cluster-absent .ensures staged d e, k .cluster-stays .ensures staged d e) depth 6
 
-table-full-requires : tie.Need-table-full-requires
-table-full-requires c κs = search needs
+old-version-requires : tie.Need-old-version-requires
+old-version-requires c κs = search needs
 
 returns-4 : tie.Need-returns-4
 returns-4 c staged d e v =
     let k = c .before in
-    let j = before-15 k in
-    let i = before-14 j in
-    search (numbers, before-13 i .cluster-present .ensures staged d e, i .cluster-absent .ensures staged d e, j .old-version .ensures staged d e v, k .table-full .ensures d) depth 7
+    let j = before-14 k in
+    let i = before-21 j in
+    search (numbers, before-13 i .cluster-present .ensures staged d e, i .cluster-absent .ensures staged d e, j .cluster-stays .ensures staged d e, k .old-version .ensures staged d e v) depth 7
+
+table-full-requires : tie.Need-table-full-requires
+table-full-requires c κs = search needs
 
 returns-5 : tie.Need-returns-5
 returns-5 c staged d e v =
     let k = c .before in
     let j = before-15 k in
     let i = before-14 j in
-    search (numbers, before-13 i .cluster-present .ensures staged d e, i .cluster-absent .ensures staged d e, j .old-version .ensures staged d e v, k .table-full .ensures d) depth 7
+    let h = before-21 i in
+    search (
+      numbers,
+      before-13 h .cluster-present .ensures staged d e,
+      h .cluster-absent .ensures staged d e,
+      i .cluster-stays .ensures staged d e,
+      j .old-version .ensures staged d e v,
+      k .table-full .ensures d,
+    ) depth 8
+
+returns-6 : tie.Need-returns-6
+returns-6 c staged d e v =
+    let k = c .before in
+    let j = before-15 k in
+    let i = before-14 j in
+    let h = before-21 i in
+    search (
+      numbers,
+      before-13 h .cluster-present .ensures staged d e,
+      h .cluster-absent .ensures staged d e,
+      i .cluster-stays .ensures staged d e,
+      j .old-version .ensures staged d e v,
+      k .table-full .ensures d,
+    ) depth 8
 
 pub staged-refusal-spec : {M : Type 1} → statement M
 staged-refusal-spec =
@@ -62,8 +91,10 @@ staged-refusal-spec =
     returns
     cluster-absent-requires
     returns-2
-    old-version-requires
+    cluster-stays-requires
     returns-3
-    table-full-requires
+    old-version-requires
     returns-4
-    returns-5)
+    table-full-requires
+    returns-5
+    returns-6)

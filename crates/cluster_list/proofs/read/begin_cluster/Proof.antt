@@ -1,17 +1,66 @@
--- `cluster_list::read::begin_cluster` meets its contract: the cluster with the need of its line, added. Assumes nothing.
-use Rattle.cluster_list.proofs.ReadLaws.{begun-built, begun}
+-- `cluster_list::read::begin_cluster` meets its contract: the need, the mark, and the cluster with both, added. Assumes nothing.
+use Rattle.cluster_list.specs.Read.{clusterBegun}
+use Rattle.cluster_list.proofs.ReadLaws.{begun-built, begun, read-chain}
 use borrow.Author.Needs.{needs}
 use Rattle.cluster_list.proofs.read.begin_cluster.Statement.{statement}
 use Rattle.cluster_list.proofs.read.begin_cluster.Tie as tie
 
-cluster-with-requires : tie.Need-cluster-with-requires
-cluster-with-requires c κs = search needs
+need-fields-requires : tie.Need-need-fields-requires
+need-fields-requires c κs = search needs
+
+enum-known-need : tie.Need-enum-known-need
+enum-known-need c = search needs
+
+enum-told : tie.Need-enum-told
+enum-told c = search needs
+
+ill-formed-requires : tie.Need-ill-formed-requires
+ill-formed-requires c κs = search needs
+
+returns : tie.Need-returns
+unfolding clusterBegun
+returns c = search (read-chain, begun) depth 9
+
+mark-field-requires : tie.Need-mark-field-requires
+mark-field-requires c κs = search needs
+
+enum-known-mark : tie.Need-enum-known-mark
+enum-known-mark c = search needs
+
+enum-told-2 : tie.Need-enum-told-2
+enum-told-2 c = search needs
+
+ill-formed-requires-2 : tie.Need-ill-formed-requires-2
+ill-formed-requires-2 c κs = search needs
+
+returns-2 : tie.Need-returns-2
+unfolding clusterBegun
+returns-2 c = search (read-chain, begun) depth 9
+
+marked-cluster-requires : tie.Need-marked-cluster-requires
+marked-cluster-requires c κs = search needs
 
 add-cluster-requires : tie.Need-add-cluster-requires
 add-cluster-requires c κs = search (needs, begun-built)
 
-returns : tie.Need-returns
-returns c = search begun
+returns-3 : tie.Need-returns-3
+unfolding clusterBegun
+returns-3 c = search (read-chain, begun) depth 9
 
 pub begin-cluster-spec : {M : Type 1} → statement M
-begin-cluster-spec = tie.close (tie.spec cluster-with-requires add-cluster-requires returns)
+begin-cluster-spec =
+    tie.close
+    (tie.spec
+    need-fields-requires
+    enum-known-need
+    enum-told
+    ill-formed-requires
+    returns
+    mark-field-requires
+    enum-known-mark
+    enum-told-2
+    ill-formed-requires-2
+    returns-2
+    marked-cluster-requires
+    add-cluster-requires
+    returns-3)

@@ -1,4 +1,4 @@
--- `cluster_list::read::cluster_line` meets its contract: the part number, the version, the need, and the cluster begun. Assumes nothing.
+-- `cluster_list::read::cluster_line` meets its contract: the part number, the version, and the cluster begun. Assumes nothing.
 use Rattle.cluster_list.specs.Read.{clusterLine}
 use Rattle.cluster_list.proofs.ReadLaws.{read-chain}
 use borrow.Author.Needs.{needs}
@@ -43,28 +43,12 @@ returns-2 : tie.Need-returns-2
 unfolding clusterLine
 returns-2 c = search read-chain depth 9
 
-need-fields-requires : tie.Need-need-fields-requires
-need-fields-requires c κs = search needs
-
-enum-known-need : tie.Need-enum-known-need
-enum-known-need c = search needs
-
-enum-told-3 : tie.Need-enum-told-3
-enum-told-3 c = search needs
-
-ill-formed-requires-3 : tie.Need-ill-formed-requires-3
-ill-formed-requires-3 c κs = search needs
+begin-cluster-requires : tie.Need-begin-cluster-requires
+begin-cluster-requires c κs = search needs
 
 returns-3 : tie.Need-returns-3
 unfolding clusterLine
 returns-3 c = search read-chain depth 9
-
-begin-cluster-requires : tie.Need-begin-cluster-requires
-begin-cluster-requires c κs = search needs
-
-returns-4 : tie.Need-returns-4
-unfolding clusterLine
-returns-4 c = search read-chain depth 9
 
 pub cluster-line-spec : {M : Type 1} → statement M
 cluster-line-spec =
@@ -82,10 +66,5 @@ cluster-line-spec =
     enum-told-2
     ill-formed-requires-2
     returns-2
-    need-fields-requires
-    enum-known-need
-    enum-told-3
-    ill-formed-requires-3
-    returns-3
     begin-cluster-requires
-    returns-4)
+    returns-3)

@@ -8,10 +8,13 @@ use Rattle.cluster_list.proofs.read.value_lines.Statement.{statement}
 use Rattle.cluster_list.proofs.read.value_lines.Tie as tie
 
 abbrev Inv-loop : tie.InvT-loop
-Inv-loop s columns table₀ at₀ table at = Reading s columns at₀ table at
+Inv-loop s columns commas table₀ at₀ table at = Reading s columns commas at₀ table at
 
 abbrev μ-loop : tie.MeasureT-loop
-μ-loop s columns table₀ at₀ table at = length s - at
+μ-loop s columns commas table₀ at₀ table at = length s - at
+
+commas-of-requires : tie.Need-commas-of-requires Inv-loop μ-loop
+commas-of-requires c κs = search needs
 
 empty-table-requires : tie.Need-empty-table-requires Inv-loop μ-loop
 empty-table-requires c κs = search needs
@@ -64,6 +67,7 @@ value-lines-spec =
     (tie.spec
     Inv-loop
     μ-loop
+    commas-of-requires
     empty-table-requires
     loop-holds
     line-at-requires

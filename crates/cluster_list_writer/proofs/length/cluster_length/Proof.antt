@@ -1,21 +1,22 @@
--- `cluster_list_writer::length::cluster_length` meets its contract. Each sum is a part of the whole, which has at most 181 bytes.
+-- `cluster_list_writer::length::cluster_length` meets its contract. Each sum is a part of the whole, which has at most 186 bytes.
 -- Assumes nothing.
 use Prim.Native.Nat.{_+_, _≤_}
 use native.Mathlib.Omega.{arith}
 use lib.ListN.{length, drop}
 use Rattle.text.specs.Digits.{digits}
 use Rattle.text.specs.Version.{versionText}
-use Rattle.rows.specs.Line.{lineText}
 use Rattle.clusters.specs.View.{viewCluster}
-use Rattle.cluster_list.specs.Write.{needCells, needLinesText}
+use Rattle.cluster_list.specs.Write.{fiveNames, needCells, needLinesText}
 use Rattle.cluster_list.proofs.Lengths.{cluster-lines-most}
+use Rattle.cluster_list_writer.specs.Fields.{fieldsText}
 use Rattle.cluster_list_writer.proofs.Texts.{cluster-few, cluster-length-parts}
 use borrow.Author.Needs.{needs}
 use Rattle.cluster_list_writer.proofs.length.cluster_length.Statement.{statement}
 use Rattle.cluster_list_writer.proofs.length.cluster_length.Tie as tie
 
 whole : (c : tie.Start) → (let d = viewCluster (c .args .c) in
-    length (digits (d .part)) + length (versionText (d .version)) + 2 + length (lineText (needCells (d .needs))) + length (needLinesText (drop 1 (d .needs))) ≤ 181)
+    length (digits (d .part)) + length (versionText (d .version)) + 4 + length (fieldsText (needCells (d .needs)))
+    + length (needLinesText fiveNames (drop 1 (d .needs))) ≤ 186)
 whole c = omega (arith, cluster-length-parts (viewCluster (c .args .c)), cluster-lines-most (viewCluster (c .args .c)) (c .pre))
 
 number-length-requires : tie.Need-number-length-requires

@@ -3,19 +3,20 @@
 use Prim.Native.Nat.{_+_, _-_, _≤_}
 use native.Mathlib.Omega.{arith}
 use mathlib.Core.Path.{_≡_, ap}
-use lib.ListN.{length, drop, getD}
+use lib.ListN.{length}
 use borrow.Author.Needs.{needs}
 use Rattle.base.proofs.Counted.{unmapped}
-use Rattle.clusters.specs.View.{noCluster, viewCluster, viewTable}
+use Rattle.clusters.specs.View.{viewTable}
 use Rattle.clusters.proofs.Views.{few-of-within}
-use Rattle.cluster_list.specs.Write.{clusterLines, clustersText, writeList}
+use Rattle.cluster_list.specs.Write.{writeList}
 use Rattle.cluster_list.proofs.Lengths.{list-most}
-use Rattle.cluster_list_writer.proofs.Texts.{clusters-over, clusters-length-left, cluster-there-within, list-length-parts}
+use Rattle.cluster_list_writer.proofs.Texts.{clusterLinesAt, clustersTextFrom, clusters-over, clusters-length-left}
+use Rattle.cluster_list_writer.proofs.Texts.{cluster-there-within, list-length-parts}
 use Rattle.cluster_list_writer.proofs.length.list_length.Statement.{statement}
 use Rattle.cluster_list_writer.proofs.length.list_length.Tie as tie
 
 abbrev Inv-loop : tie.InvT-loop
-Inv-loop t count total₀ i₀ total i = total + length (clustersText (drop i (viewTable t))) ≡ length (writeList (viewTable t))
+Inv-loop t count total₀ i₀ total i = total + length (clustersTextFrom t i) ≡ length (writeList (viewTable t))
 
 abbrev μ-loop : tie.MeasureT-loop
 μ-loop t count total₀ i₀ total i = count - i
@@ -28,7 +29,7 @@ long c = search (needs, unmapped)
 
 -- what the cluster at i adds
 step : (c : tie.In-loop Inv-loop μ-loop) → (let t = c .before .before .args .t1 in let i = c .before .loop .i in
-    length (clustersText (drop i (viewTable t))) ≡ length (clusterLines (viewCluster (getD (t .clusters) i noCluster))) + length (clustersText (drop (i + 1) (viewTable t))))
+    length (clustersTextFrom t i) ≡ length (clusterLinesAt t i) + length (clustersTextFrom t (i + 1)))
 step c =
     let s = c .before .before in
     clusters-length-left (s .args .t1) (s .pre) (long s) (c .before .loop .i) (c .loop-test .taken)

@@ -4,19 +4,18 @@ use Prim.Native.Nat.{_+_, _-_, _≤_}
 use native.Mathlib.Omega.{arith}
 use mathlib.Core.Path.{_≡_, ap}
 use mathlib.Core.List.{[], _∷_}
-use lib.ListN.{length, drop, getD}
+use lib.ListN.{length, getD}
 use borrow.Author.Needs.{needs}
 use Rattle.base.proofs.Counted.{unmapped}
-use Rattle.rows.specs.Line.{lineText}
-use Rattle.clusters.specs.View.{noNeed, viewCluster}
-use Rattle.cluster_list.specs.Write.{needCells, needLinesText}
-use Rattle.cluster_list_writer.proofs.Texts.{cluster-few, needs-length-left, needs-length-most, needs-over}
+use Rattle.clusters.specs.View.{noNeed}
+use Rattle.cluster_list.specs.Write.{needCells}
+use Rattle.cluster_list_writer.specs.Fields.{fieldsText}
+use Rattle.cluster_list_writer.proofs.Texts.{needLinesFrom, cluster-few, needs-length-left, needs-length-most, needs-over}
 use Rattle.cluster_list_writer.proofs.length.need_lines_length.Statement.{statement}
 use Rattle.cluster_list_writer.proofs.length.need_lines_length.Tie as tie
 
 abbrev Inv-loop : tie.InvT-loop
-Inv-loop c count total₀ i₀ total i =
-    total + length (needLinesText (drop i (viewCluster c .needs))) ≡ length (needLinesText (drop 1 (viewCluster c .needs)))
+Inv-loop c count total₀ i₀ total i = total + length (needLinesFrom c i) ≡ length (needLinesFrom c 1)
 
 abbrev μ-loop : tie.MeasureT-loop
 μ-loop c count total₀ i₀ total i = count - i
@@ -29,7 +28,7 @@ long c = search (needs, unmapped)
 
 -- what the line of the need at i adds
 step : (c : tie.In-loop Inv-loop μ-loop) → (let d = c .before .before .args .t1 in let i = c .before .loop .i in
-    length (needLinesText (drop i (viewCluster d .needs))) ≡ length (lineText (needCells (getD (d .needs) i noNeed ∷ []))) + 2 + length (needLinesText (drop (i + 1) (viewCluster d .needs))))
+    length (needLinesFrom d i) ≡ length (fieldsText (needCells (getD (d .needs) i noNeed ∷ []))) + 3 + length (needLinesFrom d (i + 1)))
 step c =
     let s = c .before .before in
     needs-length-left (s .args .t1) (few s) (long s) (c .before .loop .i) (c .loop-test .taken)

@@ -4,19 +4,16 @@ use Prim.Native.Nat.{_+_, _-_}
 use native.Mathlib.Omega.{arith}
 use mathlib.Core.Path.{_≡_}
 use mathlib.Core.List.{_++_}
-use lib.ListN.{length, drop, getD}
+use lib.ListN.{length}
 use borrow.Author.Needs.{needs}
 use Rattle.base.proofs.Counted.{unmapped}
-use Rattle.clusters.specs.View.{noNeed, viewCluster}
-use Rattle.cluster_list.specs.Write.{needLineText, needLinesText}
-use Rattle.cluster_list_writer.proofs.Texts.{needs-left, needs-over}
+use Rattle.cluster_list_writer.proofs.Texts.{needLineAt, needLinesFrom, needs-left, needs-over}
 use Rattle.text.proofs.Putting.{Putting, putting-begins, putting-room, putting-on, putting-done}
 use Rattle.cluster_list_writer.proofs.put.put_need_lines.Statement.{statement}
 use Rattle.cluster_list_writer.proofs.put.put_need_lines.Tie as tie
 
 abbrev Inv-loop : tie.InvT-loop
-Inv-loop buf₀ from c count at₀ i₀ buf at i =
-    Putting buf₀ from (needLinesText (drop 1 (viewCluster c .needs))) buf at (needLinesText (drop i (viewCluster c .needs)))
+Inv-loop buf₀ from c count at₀ i₀ buf at i = Putting buf₀ from (needLinesFrom c 1) buf at (needLinesFrom c i)
 
 abbrev μ-loop : tie.MeasureT-loop
 μ-loop buf₀ from c count at₀ i₀ buf at i = count - i
@@ -26,7 +23,7 @@ long c = search (needs, unmapped)
 
 -- the line of the need at i, and then those behind it
 step : (c : tie.In-loop Inv-loop μ-loop) → (let d = c .before .before .before .args .t3 in let i = c .before .loop .i in
-    needLinesText (drop i (viewCluster d .needs)) ≡ needLineText (getD (d .needs) i noNeed) ++ needLinesText (drop (i + 1) (viewCluster d .needs)))
+    needLinesFrom d i ≡ needLineAt d i ++ needLinesFrom d (i + 1))
 step c =
     let s = c .before .before .before in
     needs-left (s .args .t3) (s .pre .0) (long s) (c .before .loop .i) (c .loop-test .taken)
@@ -45,7 +42,7 @@ put-need-line-requires c κs =
     let k = c .before .before in
     let l = k .before .loop in
     let s = k .before .before .before in
-    putting-room _ _ _ (l .buf) (l .at) _ (l .inv) (needLineText (getD (s .args .t3 .needs) (l .i) noNeed)) (needLinesText (drop (l .i + 1) (viewCluster (s .args .t3) .needs))) (step k) (s .pre .1)
+    putting-room _ _ _ (l .buf) (l .at) _ (l .inv) (needLineAt (s .args .t3) (l .i)) (needLinesFrom (s .args .t3) (l .i + 1)) (step k) (s .pre .1)
 
 add-i : tie.Need-add-i Inv-loop μ-loop
 add-i c = omega (arith, c .before .before .before .before .before .before .before .before .pre .0)
@@ -58,7 +55,8 @@ loop-again c =
     let k = c .before .before .before .before .before in
     let l = k .before .loop in
     let s = k .before .before .before in
-    putting-on _ _ _ (l .buf) (l .at) _ (l .inv) (needLineText (getD (s .args .t3 .needs) (l .i) noNeed)) (needLinesText (drop (l .i + 1) (viewCluster (s .args .t3) .needs))) (step k) _ _ (c .before .before .put-need-line .ensures)
+    putting-on _ _ _ (l .buf) (l .at) _ (l .inv) (needLineAt (s .args .t3) (l .i)) (needLinesFrom (s .args .t3) (l .i + 1)) (step k) _ _
+    (c .before .before .put-need-line .ensures)
 
 same-length : tie.Need-same-length Inv-loop μ-loop
 same-length c = c .before .loop .inv .long

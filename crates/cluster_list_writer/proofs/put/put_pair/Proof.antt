@@ -1,17 +1,19 @@
 -- `cluster_list_writer::put::put_pair` meets its contract: each part put behind the one before, with its room. Assumes nothing.
 use native.Mathlib.Omega.{arith}
+use mathlib.Core.List.{[], _∷_}
 use Rattle.text.proofs.PutLaws.{put-length}
 use Rattle.base.specs.Quoted.{comma}
 use Rattle.text.specs.Digits.{digits}
 use Rattle.text.specs.Version.{versionText}
 use Rattle.text.proofs.PutPair.{Pair, room-first-part, room-between, room-second-part, room-behind, pair-put}
-use Rattle.cluster_list_writer.specs.Pair.{pairText}
+use Rattle.cluster_list_writer.specs.Fields.{fieldsText}
 use Rattle.cluster_list_writer.proofs.Texts.{pair-of}
 use Rattle.cluster_list_writer.proofs.put.put_pair.Statement.{statement}
 use Rattle.cluster_list_writer.proofs.put.put_pair.Tie as tie
 
-pair : (c : tie.Start) → (let a = c .args in Pair (pairText (a .part) (a .version) (a .behind)) (digits (a .part)) comma (versionText (a .version)) (a .behind))
-pair c = let a = c .args in pair-of (a .part) (a .version) (a .behind)
+pair : (c : tie.Start) → (let part = digits (c .args .part) in let version = versionText (c .args .version) in
+    Pair (fieldsText (part ∷ version ∷ [])) part comma version comma)
+pair c = pair-of (digits (c .args .part)) (versionText (c .args .version))
 
 put-number-requires : tie.Need-put-number-requires
 put-number-requires c κs = search (room-first-part (pair (c .before .before)))

@@ -4,20 +4,19 @@ use Prim.Native.Nat.{_+_, _-_, _≤_}
 use native.Mathlib.Omega.{arith}
 use mathlib.Core.Path.{_≡_}
 use mathlib.Core.List.{_++_}
-use lib.ListN.{length, drop, getD}
+use lib.ListN.{length}
 use borrow.Author.Needs.{needs}
 use Rattle.base.proofs.Counted.{unmapped}
-use Rattle.clusters.specs.View.{noCluster, viewCluster, viewTable}
+use Rattle.clusters.specs.View.{viewTable}
 use Rattle.clusters.proofs.Views.{few-of-within, few-needs-at}
-use Rattle.cluster_list.specs.Write.{clusterLines, clustersText}
-use Rattle.cluster_list_writer.proofs.Texts.{clusters-left, clusters-over}
+use Rattle.cluster_list.specs.Write.{fiveNames, clustersText}
+use Rattle.cluster_list_writer.proofs.Texts.{clusterLinesAt, clustersTextFrom, clusters-left, clusters-over}
 use Rattle.text.proofs.Putting.{Putting, putting-begins, putting-room, putting-on, putting-done}
 use Rattle.cluster_list_writer.proofs.write.put_clusters.Statement.{statement}
 use Rattle.cluster_list_writer.proofs.write.put_clusters.Tie as tie
 
 abbrev Inv-loop : tie.InvT-loop
-Inv-loop buf₀ from t count at₀ i₀ buf at i =
-    Putting buf₀ from (clustersText (viewTable t)) buf at (clustersText (drop i (viewTable t)))
+Inv-loop buf₀ from t count at₀ i₀ buf at i = Putting buf₀ from (clustersText fiveNames (viewTable t)) buf at (clustersTextFrom t i)
 
 abbrev μ-loop : tie.MeasureT-loop
 μ-loop buf₀ from t count at₀ i₀ buf at i = count - i
@@ -30,7 +29,7 @@ long c = search (needs, unmapped)
 
 -- the lines of the cluster at i, and then those behind it
 step : (c : tie.In-loop Inv-loop μ-loop) → (let t = c .before .before .before .args .t3 in let i = c .before .loop .i in
-    clustersText (drop i (viewTable t)) ≡ clusterLines (viewCluster (getD (t .clusters) i noCluster)) ++ clustersText (drop (i + 1) (viewTable t)))
+    clustersTextFrom t i ≡ clusterLinesAt t i ++ clustersTextFrom t (i + 1))
 step c =
     let s = c .before .before .before in
     clusters-left (s .args .t3) (s .pre .0) (long s) (c .before .loop .i) (c .loop-test .taken)
@@ -50,7 +49,7 @@ put-cluster-requires c κs =
     let l = k .before .loop in
     let s = k .before .before .before in (
       few-needs-at (s .args .t3) (l .i) (s .pre .0) (long s) (k .loop-test .taken),
-      putting-room _ _ _ (l .buf) (l .at) _ (l .inv) (clusterLines (viewCluster (getD (s .args .t3 .clusters) (l .i) noCluster))) (clustersText (drop (l .i + 1) (viewTable (s .args .t3)))) (step k) (s .pre .1),
+      putting-room _ _ _ (l .buf) (l .at) _ (l .inv) (clusterLinesAt (s .args .t3) (l .i)) (clustersTextFrom (s .args .t3) (l .i + 1)) (step k) (s .pre .1),
     )
 
 add-i : tie.Need-add-i Inv-loop μ-loop
@@ -64,7 +63,8 @@ loop-again c =
     let k = c .before .before .before .before .before in
     let l = k .before .loop in
     let s = k .before .before .before in
-    putting-on _ _ _ (l .buf) (l .at) _ (l .inv) (clusterLines (viewCluster (getD (s .args .t3 .clusters) (l .i) noCluster))) (clustersText (drop (l .i + 1) (viewTable (s .args .t3)))) (step k) _ _ (c .before .before .put-cluster .ensures)
+    putting-on _ _ _ (l .buf) (l .at) _ (l .inv) (clusterLinesAt (s .args .t3) (l .i)) (clustersTextFrom (s .args .t3) (l .i + 1)) (step k) _ _
+    (c .before .before .put-cluster .ensures)
 
 same-length : tie.Need-same-length Inv-loop μ-loop
 same-length c = c .before .loop .inv .long

@@ -30,7 +30,7 @@ unfolding withNeed
 returns c =
     let s = c .before .before in
     let k = s .args .c in
-    ap {B = Cluster} (λ (needs : List Need). record { part = k .part; version = k .version; needs = needs; «need_count» = k .«need_count» + 1 })
+    ap {B = Cluster} (λ (needs : List Need). record { part = k .part; version = k .version; needs = needs; «need_count» = k .«need_count» + 1; stays = k .stays })
     (set-put (k .needs) (k .«need_count») (s .args .n) (omega (arith, long s)))
 
 pub with-need-spec : {M : Type 1} → statement M

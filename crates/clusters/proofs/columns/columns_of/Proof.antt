@@ -3,6 +3,7 @@
 use borrow.Author.Needs.{needs}
 use native.Mathlib.Omega.{arith}
 use mathlib.Core.Path.{_≡_, refl, sym, ap, _∙_}
+use mathlib.Core.Bool.{Bool}
 use mathlib.Core.List.{map}
 use Prim.Native.Nat.{ℕ, _-_, _≤_}
 use lib.ListN.{length, take, length-set}
@@ -12,7 +13,7 @@ use Rattle.clusters.specs.declared.cluster.Cluster.{Cluster}
 use Rattle.clusters.specs.Table.{Table}
 use Rattle.clusters.specs.View.{viewCluster, viewTable}
 use Rattle.clusters.specs.Place.{partOf}
-use Rattle.clusters.specs.Columns.{versionOf}
+use Rattle.clusters.specs.Columns.{versionOf, markOf}
 use Rattle.clusters.proofs.Along.{view-few, table-length}
 use Rattle.clusters.proofs.ColumnLaws.{fill-step, map-twice}
 use Rattle.clusters.proofs.columns.columns_of.Statement.{statement}
@@ -24,22 +25,27 @@ structPart c = c .part
 abbrev structVersion : Cluster → Version
 structVersion c = c .version
 
+abbrev structMark : Cluster → Bool
+structMark c = c .stays
+
 abbrev Inv-loop : tie.InvT-loop
-Inv-loop t parts₀ versions₀ count i₀ parts versions i =
+Inv-loop t parts₀ versions₀ marks₀ count i₀ parts versions marks i =
     (i ≤ count)
     × (length parts ≡ 64)
     × (length versions ≡ 64)
+    × (length marks ≡ 64)
     × (take i parts ≡ map structPart (take i (t .clusters)))
     × (take i versions ≡ map structVersion (take i (t .clusters)))
+    × (take i marks ≡ map structMark (take i (t .clusters)))
 
 abbrev μ-loop : tie.MeasureT-loop
-μ-loop t parts₀ versions₀ count i₀ parts versions i = count - i
+μ-loop t parts₀ versions₀ marks₀ count i₀ parts versions marks i = count - i
 
 long : (c : tie.Start Inv-loop μ-loop) → length (c .args .t1 .clusters) ≡ 64
 long c = search (needs, unmapped)
 
 loop-holds : tie.Need-loop-holds Inv-loop μ-loop
-loop-holds c = (omega arith, refl, refl, refl, refl)
+loop-holds c = (omega arith, refl, refl, refl, refl, refl, refl)
 
 mul-c : tie.Need-mul-c Inv-loop μ-loop
 mul-c c = omega arith
@@ -59,6 +65,9 @@ mul-versions c = omega arith
 array-set-from-versions : tie.Need-array-set-from-versions Inv-loop μ-loop
 array-set-from-versions c = omega arith
 
+array-write-marks : tie.Need-array-write-marks Inv-loop μ-loop
+array-write-marks c = omega arith
+
 add-i : tie.Need-add-i Inv-loop μ-loop
 add-i c = omega arith
 
@@ -75,8 +84,10 @@ loop-again c =
       omega arith,
       length-set (b .loop .parts) i _ ∙ v .1,
       length-set (b .loop .versions) i _ ∙ v .2,
-      fill-step structPart cs (b .loop .parts) i _ (omega (arith, l)) (omega (arith, v .1)) (v .3),
-      fill-step structVersion cs (b .loop .versions) i _ (omega (arith, l)) (omega (arith, v .2)) (v .4),
+      length-set (b .loop .marks) i _ ∙ v .3,
+      fill-step structPart cs (b .loop .parts) i _ (omega (arith, l)) (omega (arith, v .1)) (v .4),
+      fill-step structVersion cs (b .loop .versions) i _ (omega (arith, l)) (omega (arith, v .2)) (v .5),
+      fill-step structMark cs (b .loop .marks) i _ (omega (arith, l)) (omega (arith, v .3)) (v .6),
     )
 
 returns : tie.Need-returns Inv-loop μ-loop
@@ -89,8 +100,9 @@ returns c =
     record {
       few = s .pre;
       size = sym (table-length t (s .pre) (long s));
-      parts = (rw q at (v .3)) ∙ sym (ap (λ (l : Table). map partOf l) e ∙ map-twice viewCluster partOf (take (t .count) (t .clusters)));
-      versions = (rw q at (v .4)) ∙ sym (ap (λ (l : Table). map versionOf l) e ∙ map-twice viewCluster versionOf (take (t .count) (t .clusters)));
+      parts = (rw q at (v .4)) ∙ sym (ap (λ (l : Table). map partOf l) e ∙ map-twice viewCluster partOf (take (t .count) (t .clusters)));
+      versions = (rw q at (v .5)) ∙ sym (ap (λ (l : Table). map versionOf l) e ∙ map-twice viewCluster versionOf (take (t .count) (t .clusters)));
+      marks = (rw q at (v .6)) ∙ sym (ap (λ (l : Table). map markOf l) e ∙ map-twice viewCluster markOf (take (t .count) (t .clusters)));
     }
 
 pub columns-of-spec : {M : Type 1} → statement M
@@ -106,6 +118,7 @@ columns-of-spec =
     array-write-parts
     mul-versions
     array-set-from-versions
+    array-write-marks
     add-i
     loop-less
     loop-again

@@ -1,6 +1,7 @@
 -- `clusters::needs::meets_in` meets its contract. Assumes nothing.
 use borrow.Author.Needs.{needs}
 use native.Mathlib.Omega.{arith}
+use mathlib.Core.Bool.{false}
 use mathlib.Core.Path.{_≡_, sym, ap, _∙_}
 use Prim.Native.Nat.{_<_}
 use lib.ListN.{take}
@@ -50,7 +51,7 @@ returns-2 : tie.Need-returns-2
 returns-2 c t of =
     let k = c .before .before in
     let a = k .before .before .before .before .before .before .args in
-    let f = found-among (a .t1) t of (a .n .part) (k .before .i .given .0 .0) noVersion (found k) in
+    let f = found-among (a .t1) t of (a .n .part) (k .before .i .given .0 .0) noVersion false (found k) in
     c .at-or-above .ensures
     ∙ ap (λ (v : Version). atOrAbove v (a .n .least)) (f .same-version)
     ∙ sym (meets-some t (a .n) (f .found) (f .there))

@@ -16,23 +16,14 @@ loop-holds c = search needs
 returns : tie.Need-returns Inv-loop μ-loop
 returns c = search needs
 
-mul-cluster : tie.Need-mul-cluster Inv-loop μ-loop
-mul-cluster c = search needs
+mul-show-cluster : tie.Need-mul-show-cluster Inv-loop μ-loop
+mul-show-cluster c = search needs
 
-element-copy-out-cluster : tie.Need-element-copy-out-cluster Inv-loop μ-loop
-element-copy-out-cluster c = search needs
+element-copy-out-show-cluster : tie.Need-element-copy-out-show-cluster Inv-loop μ-loop
+element-copy-out-show-cluster c = search needs
 
-byte-requires : tie.Need-byte-requires Inv-loop μ-loop
-byte-requires c κs = search needs
-
-number-requires : tie.Need-number-requires Inv-loop μ-loop
-number-requires c κs = search needs
-
-byte-requires-2 : tie.Need-byte-requires-2 Inv-loop μ-loop
-byte-requires-2 c κs = search needs
-
-number-requires-2 : tie.Need-number-requires-2 Inv-loop μ-loop
-number-requires-2 c κs = search needs
+show-cluster-requires : tie.Need-show-cluster-requires Inv-loop μ-loop
+show-cluster-requires c κs = search needs
 
 add-i : tie.Need-add-i Inv-loop μ-loop
 add-i c = search needs
@@ -43,8 +34,8 @@ loop-less c = search needs
 loop-again : tie.Need-loop-again Inv-loop μ-loop
 loop-again c = search needs
 
-byte-requires-3 : tie.Need-byte-requires-3 Inv-loop μ-loop
-byte-requires-3 c κs = search needs
+byte-requires : tie.Need-byte-requires Inv-loop μ-loop
+byte-requires c κs = search needs
 
 returns-2 : tie.Need-returns-2 Inv-loop μ-loop
 returns-2 c = search needs
@@ -57,14 +48,11 @@ show-table-spec =
     μ-loop
     loop-holds
     returns
-    mul-cluster
-    element-copy-out-cluster
-    byte-requires
-    number-requires
-    byte-requires-2
-    number-requires-2
+    mul-show-cluster
+    element-copy-out-show-cluster
+    show-cluster-requires
     add-i
     loop-less
     loop-again
-    byte-requires-3
+    byte-requires
     returns-2)

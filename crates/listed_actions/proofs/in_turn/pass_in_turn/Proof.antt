@@ -4,7 +4,7 @@
 use borrow.Author.Needs.{needs}
 use native.Mathlib.Omega.{arith}
 use mathlib.Core.Path.{_≡_, refl, sym, ap, _∙_}
-use mathlib.Core.Bool.{true}
+use mathlib.Core.Bool.{true, false}
 use mathlib.Core.List.{List, []}
 use Prim.Native.Nat.{ℕ, _+_, _-_, _≤_, _<_}
 use lib.Dec.{eqb}
@@ -81,16 +81,19 @@ mul-old c = let h = below c in omega arith
 element-copy-out-old : tie.Need-element-copy-out-old Inv-loop μ-loop
 element-copy-out-old c = below c
 
+element-copy-out-stays : tie.Need-element-copy-out-stays Inv-loop μ-loop
+element-copy-out-stays c = below (c .before)
+
 staged-at-requires : tie.Need-staged-at-requires Inv-loop μ-loop
 staged-at-requires c κs = search needs
 
 staged-refusal-requires : tie.Need-staged-refusal-requires Inv-loop μ-loop
 staged-refusal-requires c κs = search needs
 
--- ---- the places on the way to the answer on 12 to 15
+-- ---- the places on the way to the answer on 12 to 15 and 21
 
 abbrev with-place : tie.After-staged-refusal Inv-loop μ-loop → tie.After-place-or-first Inv-loop μ-loop
-with-place k = k .before .before .before .before
+with-place k = k .before .before .before .before .before
 
 abbrev untouched : tie.After-staged-refusal Inv-loop μ-loop → tie.Else1 Inv-loop μ-loop
 untouched k = with-place k .before .before .before .before
@@ -98,7 +101,7 @@ untouched k = with-place k .before .before .before .before
 abbrev turn : tie.After-staged-refusal Inv-loop μ-loop → tie.In-loop Inv-loop μ-loop
 turn k = untouched k .before .before .before .before .before .before .before
 
--- the number is 0 exactly where the entry's action passes 12 to 15
+-- the number is 0 exactly where the entry's action passes 12 to 15 and 21
 told : (k : tie.After-staged-refusal Inv-loop μ-loop) → (let x = turn k in let a = x .before .before .before .args in
     (t : Table) → ColumnsOf (a .t1) t → eqb (k .staged-refusal .result) 0 ≡ passesUntouched t (x .before .loop .staged) (entryAction (getD (a .t2) (x .before .loop .i) noEntry)))
 told k t of =
@@ -109,8 +112,8 @@ told k t of =
     let p = with-place k in
     let here : k .before .staged-at .result ≡ stagedAs (find (c .part) t) =
     k .before .staged-at .ensures
-    ∙ ap (λ (at : ℕ). stagedAt (p .before .place-of .result) (getD (a .t1 .versions) at noVersion)) (p .place-or-first .ensures)
-    ∙ staged-by-place (a .t1) t of (c .part) noVersion (p .before .place-of .result) (p .before .place-of .ensures) in
+    ∙ ap (λ (at : ℕ). stagedAt (p .before .place-of .result) (getD (a .t1 .versions) at noVersion) (getD (a .t1 .marks) at false)) (p .place-or-first .ensures)
+    ∙ staged-by-place (a .t1) t of (c .part) noVersion false (p .before .place-of .result) (p .before .place-of .ensures) in
     zero-untouched t _ _ _ _ (sym (part-of (e .action .change) c)) (k .staged-refusal .ensures _ c here refl)
 
 returns-2 : tie.Need-returns-2 Inv-loop μ-loop
@@ -169,6 +172,7 @@ pass-in-turn-spec =
     place-or-first-requires
     mul-old
     element-copy-out-old
+    element-copy-out-stays
     staged-at-requires
     staged-refusal-requires
     returns-2

@@ -16,8 +16,8 @@ pub fn show_case(case: &[u8]) {
     show::with_fields(sentence, case);
     let kind = kind_of(
         sentence,
-        b"number `%` up to %:;number written in;version `%`:;sum of `%` and `%`:;% above %:;need of % at %, 20 at %:;% needs %:;% %:;list, %:;package, %:;",
-        10,
+        b"number `%` up to %:;number written in;version `%`:;sum of `%` and `%`:;% above %:;need of % at %, 20 at %:;% needs %:;% %:;list, %:;package, %:;longest lists:;",
+        11,
     );
     match kind {
         0 => numbers::read(case),
@@ -30,6 +30,7 @@ pub fn show_case(case: &[u8]) {
         7 => table_actions::action(case),
         8 => lists::list(case),
         9 => packages::package(case),
+        10 => lists::longest(),
         _ => show::bytes(b" no such kind of case\n"),
     }
 }

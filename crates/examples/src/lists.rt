@@ -2,6 +2,8 @@
 use cases::case::field;
 use cases::show;
 use cluster_list::limits::WRITTEN_LIST_MOST;
+use cluster_list::limits::longest_read;
+use cluster_list::limits::longest_written;
 use cluster_list::read::ListAnswer;
 use cluster_list::read::read_list;
 use cluster_list_writer::length::list_length;
@@ -20,4 +22,12 @@ pub fn list(case: &[u8]) {
     let mut buffer = [0u8; WRITTEN_LIST_MOST];
     let end = write_list(&mut buffer, read.table);
     show::bytes(&buffer[..end]);
+}
+
+// How long a list can be that is written, and one that can be read.
+pub fn longest() {
+    show::length(longest_written());
+    show::bytes(b" written,");
+    show::length(longest_read());
+    show::bytes(b" read\n");
 }

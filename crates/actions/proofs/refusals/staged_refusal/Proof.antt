@@ -1,6 +1,12 @@
 -- `actions::refusals::staged_refusal` meets its contract: the same tests in the same order. Assumes nothing.
 use borrow.Author.Needs.{needs}
+use mathlib.Core.Path.{_≡_}
+use mathlib.Core.Option.{Option}
 use Rattle.base.proofs.RefusalNumbers.{numbers}
+use Rattle.clusters.specs.Cluster.{Cluster}
+use Rattle.actions.specs.Refusals.{clusterPresent, clusterAbsent, clusterStays, oldVersion, tableFull}
+use Rattle.actions.specs.Staged.{stagedAs}
+use Rattle.actions.specs.View.{actionOf}
 use Rattle.actions.proofs.refusals.staged_refusal.Statement.{statement}
 use Rattle.actions.proofs.refusals.staged_refusal.Tie as tie
 
@@ -53,35 +59,32 @@ returns-4 c staged d e v =
 table-full-requires : tie.Need-table-full-requires
 table-full-requires c κs = search needs
 
+-- what the five tests answered, where all were asked
+module _ (k : tie.After-table-full) (found : Option Cluster) (d : Cluster) where
+  abbrev start : tie.Start
+  start = before-13 (before-21 (before-14 (before-15 k))) .before
+
+  record Told : Type 0 where
+    present : before-13 (before-21 (before-14 (before-15 k))) .cluster-present .result ≡ clusterPresent found (actionOf (start .args .change) d)
+    absent : before-21 (before-14 (before-15 k)) .cluster-absent .result ≡ clusterAbsent found (actionOf (start .args .change) d)
+    stays : before-14 (before-15 k) .cluster-stays .result ≡ clusterStays found (actionOf (start .args .change) d)
+    old : before-15 k .old-version .result ≡ oldVersion found (actionOf (start .args .change) d)
+    full : k .table-full .result ≡ tableFull (start .args .count) (actionOf (start .args .change) d)
+
+  told : start .args .staged ≡ stagedAs found → start .args .version ≡ d .version → Told
+  told e v = record {
+    present = before-13 (before-21 (before-14 (before-15 k))) .cluster-present .ensures found d e;
+    absent = before-21 (before-14 (before-15 k)) .cluster-absent .ensures found d e;
+    stays = before-14 (before-15 k) .cluster-stays .ensures found d e;
+    old = before-15 k .old-version .ensures found d e v;
+    full = k .table-full .ensures d;
+  }
+
 returns-5 : tie.Need-returns-5
-returns-5 c staged d e v =
-    let k = c .before in
-    let j = before-15 k in
-    let i = before-14 j in
-    let h = before-21 i in
-    search (
-      numbers,
-      before-13 h .cluster-present .ensures staged d e,
-      h .cluster-absent .ensures staged d e,
-      i .cluster-stays .ensures staged d e,
-      j .old-version .ensures staged d e v,
-      k .table-full .ensures d,
-    ) depth 8
+returns-5 c found d e v = search (numbers, told (c .before) found d e v) depth 8
 
 returns-6 : tie.Need-returns-6
-returns-6 c staged d e v =
-    let k = c .before in
-    let j = before-15 k in
-    let i = before-14 j in
-    let h = before-21 i in
-    search (
-      numbers,
-      before-13 h .cluster-present .ensures staged d e,
-      h .cluster-absent .ensures staged d e,
-      i .cluster-stays .ensures staged d e,
-      j .old-version .ensures staged d e v,
-      k .table-full .ensures d,
-    ) depth 8
+returns-6 c found d e v = search (numbers, told (c .before) found d e v) depth 8
 
 pub staged-refusal-spec : {M : Type 1} → statement M
 staged-refusal-spec =

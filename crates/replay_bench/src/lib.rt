@@ -8,6 +8,7 @@ mod packages_by_value;
 mod play;
 mod reading;
 mod show;
+mod waves;
 
 ghost use mathlib.Core.Path.{_≡_};
 ghost use mathlib.Core.Bool.{true};

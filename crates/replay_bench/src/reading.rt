@@ -8,6 +8,7 @@ use crate::show::show_bytes;
 use crate::show::show_number;
 use crate::show::show_text;
 use crate::show::show_unknown;
+use crate::waves::waves_line;
 use change_info::change_info;
 use cluster_info::cluster_info;
 use four_state::status::status;
@@ -74,6 +75,7 @@ pub fn reading_line(s: State, store: &[u8], line: ScriptLine, buffer: &mut [u8])
         ScriptLine::Packages { room } => show_packages(packages_by_value(s, store, room as usize)),
         ScriptLine::Clusters { room } => clusters_line(s, store, room, buffer),
         ScriptLine::Changes { room } => changes_line(s, store, room, buffer),
+        ScriptLine::Waves { room } => waves_line(s, store, room),
         ScriptLine::Payload { id } => show_bytes(b"payload ", payload(s, store, id)),
         ScriptLine::Check { id } => show_number(b"check ", payload_check(s, store, id)),
         ScriptLine::Progress => show_reply(b"progress ", progress(s, store)),

@@ -43,6 +43,7 @@ lines-computed : AllHold lineOf
     ∷ "packages 8" gives line.Packages 8
     ∷ "clusters 9" gives line.Clusters 9
     ∷ "changes 10" gives line.Changes 10
+    ∷ "waves 15" gives line.Waves 15
     ∷ "payload 11" gives line.Payload 11
     ∷ "check 12" gives line.Check 12
     ∷ "progress" gives line.Progress
@@ -54,7 +55,7 @@ lines-computed : AllHold lineOf
 unfolding computing
 lines-computed = refl
 
--- "`SIZE`, `ID`, `COUNTER`, `N`, `AT` and `FIRST` are 0 to 4,294,967,295. `STORE` is at most 1,048,576 ..; `ROOM` at most 64 records or 65,536 bytes"
+-- "`SIZE`, `ID`, `COUNTER`, `N`, `AT` and `FIRST` are 0 to 4,294,967,295. `STORE` is at most 1,048,576 ..; `ROOM` at most 64 records, 64 entries or 65,536 bytes"
 rooms-computed : AllHold lineOf
     ("load 4294967295 1048576 =" gives line.Load 4294967295 1048576 (place 24 25)
     ∷ "load 4294967296 1 =" gives line.Unknown
@@ -72,6 +73,9 @@ rooms-computed : AllHold lineOf
     ∷ "clusters 65537" gives line.Unknown
     ∷ "changes 65536" gives line.Changes 65536
     ∷ "changes 65537" gives line.Unknown
+    ∷ "waves 0" gives line.Waves 0
+    ∷ "waves 64" gives line.Waves 64
+    ∷ "waves 65" gives line.Unknown
     ∷ [])
 unfolding computing
 rooms-computed = refl
@@ -101,6 +105,9 @@ unknown-computed : AllHold lineOf
     ∷ "data 1 -" gives line.Unknown
     ∷ "load 1 1" gives line.Unknown
     ∷ "poke 1" gives line.Unknown
+    ∷ "waves" gives line.Unknown
+    ∷ "wave 1" gives line.Unknown
+    ∷ "waves 1 2" gives line.Unknown
     ∷ " # load" gives line.Unknown
     ∷ [])
 unfolding computing

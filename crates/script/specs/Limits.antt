@@ -13,6 +13,10 @@ storeMost = 1048576
 abbrev pub recordsMost : ℕ
 recordsMost = 64
 
+-- "64 entries"
+abbrev pub wavesMost : ℕ
+wavesMost = 64
+
 -- "or 65,536 bytes"
 abbrev pub reportMost : ℕ
 reportMost = 65536

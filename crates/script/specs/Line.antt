@@ -11,7 +11,7 @@ use Rattle.request.specs.declared.Request.the-variants as call
 use Rattle.four_state.specs.declared.call.OldCall.the-variants as old
 use Rattle.script.specs.declared.line.ScriptLine.{ScriptLine}
 use Rattle.script.specs.declared.line.ScriptLine.the-variants as line
-use Rattle.script.specs.Limits.{numberMost, storeMost, recordsMost, reportMost}
+use Rattle.script.specs.Limits.{numberMost, storeMost, recordsMost, wavesMost, reportMost}
 use Rattle.script.specs.Words.{wordAt, behindWord, numberWord, lastNumber}
 use Rattle.script.specs.Place.{lastBlock, andThenBlock}
 
@@ -50,13 +50,14 @@ pokeLine s at =
 unfoldable pub within : ℕ → ℕ → ScriptLine → ScriptLine
 within n most l = cond (ltb most n) line.Unknown l
 
--- "`packages ROOM`", "`clusters ROOM`, `changes ROOM`"
+-- "`packages ROOM`", "`clusters ROOM`, `changes ROOM`", "`waves ROOM`"
 unfoldable pub roomLine : List ℕ → ℕ → ScriptLine
 roomLine w n =
     cond (sameBytes w (bytes "packages")) (within n recordsMost (line.Packages n))
     (cond (sameBytes w (bytes "clusters")) (within n reportMost (line.Clusters n))
     (cond (sameBytes w (bytes "changes")) (within n reportMost (line.Changes n))
-    line.Unknown))
+    (cond (sameBytes w (bytes "waves")) (within n wavesMost (line.Waves n))
+    line.Unknown)))
 
 -- "`process ID`, `work N`, `cancel ID`"
 unfoldable pub processingLine : List ℕ → ℕ → ScriptLine

@@ -9,6 +9,9 @@ pub const STORE_MOST: u32 = 1048576;
 // Records of Packages.
 pub const RECORDS_MOST: u32 = 64;
 
+// Entries of the start waves.
+pub const WAVES_MOST: u32 = 64;
+
 // Bytes of ClusterInfo and ChangeInfo.
 pub const REPORT_MOST: u32 = 65536;
 

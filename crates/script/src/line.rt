@@ -32,6 +32,7 @@ pub enum ScriptLine {
     Packages { room: u32 },
     Clusters { room: u32 },
     Changes { room: u32 },
+    Waves { room: u32 },
     Payload { id: u32 },
     Check { id: u32 },
     Progress,

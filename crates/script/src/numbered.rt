@@ -3,6 +3,7 @@ ghost use mathlib.Core.Path.{_≡_};
 ghost use Rattle.script.specs.Line.{within, roomLine, processingLine, payloadLine, transferLine};
 use crate::limits::RECORDS_MOST;
 use crate::limits::REPORT_MOST;
+use crate::limits::WAVES_MOST;
 use crate::line::ScriptLine;
 use request::Request;
 use text::word::is_word;
@@ -29,6 +30,9 @@ fn room_line(word: &[u8], n: u32) -> ScriptLine
     }
     if is_word(word, b"changes") {
         return line_within(n, REPORT_MOST, ScriptLine::Changes { room: n });
+    }
+    if is_word(word, b"waves") {
+        return line_within(n, WAVES_MOST, ScriptLine::Waves { room: n });
     }
     ScriptLine::Unknown
 }

@@ -13,7 +13,7 @@ use Rattle.text.specs.Put.{Put}
 use Rattle.text.proofs.DigitLaws.{ten-digits}
 use Rattle.text.proofs.PutLaws.{put-length, put-then}
 use Rattle.state.specs.declared.answer.Answer.{Answer}
-use Rattle.script_answers.specs.Answers.{endedNumber, namedLine, recordLine, numberDigitsMost, answerText}
+use Rattle.script_answers.specs.Answers.{endedNumber, namedLine, recordLine, waveLine, numberDigitsMost, answerText}
 
 -- what ends within a buffer is a part of it
 pub counted : (m : List ℕ) (r : ℕ) → r ≤ length m → r ≡ length (take r m)
@@ -65,7 +65,11 @@ module _ (l : List ℕ) (at : ℕ) (name : List ℕ) (n : ℕ) (o : at + length 
       pub line-counts : r ≡ length (take r j)
       line-counts = counted j r line-inside
 
--- ---- four numbers
+-- ---- two numbers and four
+
+module _ (l : List ℕ) (a b : ℕ) (p e : ℕ) (m k : List ℕ) (f : Put l 0 (endedNumber a comma) p m) (g : Put m p (endedNumber b LF) e k) where
+  pub wave-put : Put l 0 (waveLine a b) e k
+  wave-put = put-then l 0 (endedNumber a comma) (endedNumber b LF) m k p e f g
 
 -- each number of the four is put behind the one before
 module _ (l : List ℕ) (a b c d : ℕ) (p q r e : ℕ) (m k j i : List ℕ)

@@ -10,7 +10,7 @@ use Rattle.state.specs.declared.answer.Answer.the-variants.{Id, Done, Working, 
 abbrev pub endedNumber : ℕ → ℕ → List ℕ
 endedNumber n end = digits n ++ end ∷ []
 
--- a name, a number and LF, as in "`id ID`", "`check R`", "`progress P`", "`packages N`", "`bytes N`"
+-- a name, a number and LF, as in "`id ID`", "`check R`", "`progress P`", "`packages N`", "`bytes N`", "`waves N`"
 abbrev pub namedLine : List ℕ → ℕ → List ℕ
 namedLine name n = name ++ endedNumber n LF
 
@@ -30,6 +30,14 @@ recordLine id size received state =
 -- the longest line of a record
 abbrev pub recordMost : ℕ
 recordMost = 44
+
+-- "then N lines `part,wave`"
+abbrev pub waveLine : ℕ → ℕ → List ℕ
+waveLine part wave = endedNumber part comma ++ endedNumber wave LF
+
+-- the longest line of an entry
+abbrev pub waveMost : ℕ
+waveMost = 22
 
 -- the longest line of a call's answer
 abbrev pub answerMost : ℕ

@@ -4,7 +4,7 @@ ghost use mathlib.Core.List.{[], _∷_};
 ghost use lib.ListN.{length};
 ghost use Rattle.io.specs.Counts.{Counts};
 ghost use Rattle.text.specs.Put.{Put};
-ghost use Rattle.script_answers.specs.Answers.{namedLine, endedNumber, recordLine, numberDigitsMost, recordMost};
+ghost use Rattle.script_answers.specs.Answers.{namedLine, endedNumber, recordLine, waveLine, numberDigitsMost, recordMost, waveMost};
 use text::write::put_bytes;
 use text::write::put_number;
 
@@ -56,4 +56,14 @@ pub fn put_record(buf: &mut [u8], id: u32, size: u32, received: u32, state: u32)
     let behind_size = put_ended(buf, behind_id, size, b',');
     let behind_received = put_ended(buf, behind_size, received, b',');
     put_ended(buf, behind_received, state, b'\n')
+}
+
+// An entry of the start waves at the start of a buffer. The program lends one with room for every entry.
+pub fn put_wave(buf: &mut [u8], part: u32, wave: u32) -> usize
+    requires { ⌜ waveMost ≤ length (now buf) ⌝ }
+    ensures line { λ r. ⌜ Put (now (buf .entry)) 0 (waveLine part wave) r (now (buf .exit)) ⌝ }
+    ensures inside { λ r. ⌜ Counts r (now (buf .exit)) ⌝ }
+{
+    let behind_part = put_ended(buf, 0, part, b',');
+    put_ended(buf, behind_part, wave, b'\n')
 }

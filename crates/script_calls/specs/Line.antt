@@ -81,6 +81,7 @@ lineGives text line.OldStatus k bytes = lineOutcome (nothingChanged line-answer.
 lineGives text (line.Packages room) k bytes = lineOutcome (nothingChanged line-answer.Shown k) bytes
 lineGives text (line.Clusters room) k bytes = lineOutcome (nothingChanged line-answer.Shown k) bytes
 lineGives text (line.Changes room) k bytes = lineOutcome (nothingChanged line-answer.Shown k) bytes
+lineGives text (line.Waves room) k bytes = lineOutcome (nothingChanged line-answer.Shown k) bytes
 lineGives text (line.Payload id) k bytes = lineOutcome (nothingChanged line-answer.Shown k) bytes
 lineGives text (line.Check id) k bytes = lineOutcome (nothingChanged line-answer.Shown k) bytes
 lineGives text line.Progress k bytes = lineOutcome (nothingChanged line-answer.Shown k) bytes

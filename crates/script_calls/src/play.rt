@@ -50,6 +50,7 @@ pub fn play(
         ScriptLine::Packages { room: _ } => nothing_changed(LineAnswer::Shown, kept),
         ScriptLine::Clusters { room: _ } => nothing_changed(LineAnswer::Shown, kept),
         ScriptLine::Changes { room: _ } => nothing_changed(LineAnswer::Shown, kept),
+        ScriptLine::Waves { room: _ } => nothing_changed(LineAnswer::Shown, kept),
         ScriptLine::Payload { id: _ } => nothing_changed(LineAnswer::Shown, kept),
         ScriptLine::Check { id: _ } => nothing_changed(LineAnswer::Shown, kept),
         ScriptLine::Progress => nothing_changed(LineAnswer::Shown, kept),

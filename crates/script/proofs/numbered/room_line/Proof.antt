@@ -44,9 +44,22 @@ returns-3 : tie.Need-returns-3
 unfolding roomLine
 returns-3 c = search told-ladder depth 9
 
+slice-aggregate-is-word-4 : tie.Need-slice-aggregate-is-word-4
+slice-aggregate-is-word-4 c = search needs
+
+is-word-requires-4 : tie.Need-is-word-requires-4
+is-word-requires-4 c κs = search needs
+
+line-within-requires-4 : tie.Need-line-within-requires-4
+line-within-requires-4 c κs = search needs
+
 returns-4 : tie.Need-returns-4
 unfolding roomLine
 returns-4 c = search told-ladder depth 9
+
+returns-5 : tie.Need-returns-5
+unfolding roomLine
+returns-5 c = search told-ladder depth 9
 
 pub room-line-spec : {M : Type 1} → statement M
 room-line-spec =
@@ -64,4 +77,8 @@ room-line-spec =
     is-word-requires-3
     line-within-requires-3
     returns-3
-    returns-4)
+    slice-aggregate-is-word-4
+    is-word-requires-4
+    line-within-requires-4
+    returns-4
+    returns-5)

@@ -15,11 +15,11 @@ use Rattle.start_waves.specs.StartOrder.{WaveEntry, waveOf, nextWave, se
 use Rattle.start_waves.specs.WavesReport.{numbersOf}
 use Rattle.start_waves.specs.Waits.{clusterAt, WaitsOf, waitsMost}
 
--- the columns that the rounds go by have the room of a table, of so many clusters
-abbrev pub ColumnsFit : List ℕ → List ℕ → ℕ → Type 0
-ColumnsFit parts waits size = (size ≤ clustersMost) × (length parts ≡ clustersMost) × (length waits ≡ waitsMost)
+-- the arrays that the rounds go by have the room of a table, of so many clusters
+abbrev pub ArraysFit : List ℕ → List ℕ → ℕ → Type 0
+ArraysFit parts waits size = (size ≤ clustersMost) × (length parts ≡ clustersMost) × (length waits ≡ waitsMost)
 
--- the columns are those of a table within its limits
+-- the arrays are those of a table within its limits: its part numbers, and the places that its clusters wait for
 pub record ArraysOf (parts waits : List ℕ) (size : ℕ) (t : Table) : Type 0 where
   pub within : tableWithin t ≡ true
   pub sized : size ≡ length t
@@ -68,7 +68,7 @@ pub record Listed (t : Table) (entries : List WaveEntry) (started : Started) (ol
   pub waved : (i : ℕ) → i < length t → getD (started .waves) i 0 ≡ waveOf (clusterAt t i .part) entries
   pub written : new ≡ sets old 0 (numbersOf entries)
 
--- ---- what the rounds do with the columns, whichever table these are of
+-- ---- what the rounds do with the arrays, whichever table these are of
 
 -- one wave more behind the entries so far, of the clusters that join
 abbrev pub AddsWave : Bool → List ℕ → List ℕ → ℕ → ℕ → Started → Started → List ℕ → List ℕ → Type 0

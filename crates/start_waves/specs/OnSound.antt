@@ -5,11 +5,8 @@ use lib.ListN.{length}
 use Rattle.clusters.specs.Table.{Table}
 use Rattle.model.specs.Reading.{Report}
 use Rattle.reading_reply.specs.Reply.{replyOnSound}
-use Rattle.start_waves.specs.StartOrder.{startWaves}
-use Rattle.start_waves.specs.WavesReport.{numbersOf, entriesIn, wavesBuffer}
+use Rattle.start_waves.specs.WavesReport.{entriesIn, wavesWith}
 
 -- the report of a table's waves into a lent buffer; `wavesReport` is this of the running table of a sound state
 unfoldable pub wavesOnSound : Table → List ℕ → Report ℕ
-wavesOnSound t old =
-    let reply = replyOnSound (length t) (entriesIn (length old)) in
-    record { reply = reply; buffer = wavesBuffer reply (numbersOf (startWaves t)) old }
+wavesOnSound t old = wavesWith (replyOnSound (length t) (entriesIn (length old))) t old

@@ -2,6 +2,7 @@
 use Prim.Native.Nat.{ℕ, _/_}
 use mathlib.Core.List.{List, [], _∷_, _++_}
 use lib.ListN.{length, drop}
+use Rattle.clusters.specs.Table.{Table}
 use Rattle.model.specs.State.{State, Store}
 use Rattle.model.specs.Tables.{running}
 use Rattle.model.specs.Reading.{ReadingReply, refusedBy, shortBuffer, given, Report, reportReply}
@@ -26,7 +27,10 @@ wavesBuffer (given count) content old = content ++ drop (length content) old
 unfoldable pub wavesReply : State → Store → List ℕ → ReadingReply
 wavesReply s store old = reportReply s store (length (running s)) (entriesIn (length old))
 
--- the reply, and what the lent buffer holds then
+-- the report of a table's waves with this reply: what the lent buffer holds then
+abbrev pub wavesWith : ReadingReply → Table → List ℕ → Report ℕ
+wavesWith reply t old = record { reply = reply; buffer = wavesBuffer reply (numbersOf (startWaves t)) old }
+
+-- "Give the start waves for the running table."
 unfoldable pub wavesReport : State → Store → List ℕ → Report ℕ
-wavesReport s store old =
-    record { reply = wavesReply s store old; buffer = wavesBuffer (wavesReply s store old) (numbersOf (startWaves (running s))) old }
+wavesReport s store old = wavesWith (wavesReply s store old) (running s) old

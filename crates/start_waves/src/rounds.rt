@@ -10,7 +10,7 @@ ghost use lib.Seq.{sets};
 ghost use Rattle.clusters.specs.Table.{clustersMost};
 ghost use Rattle.start_waves.specs.StartOrder.{all};
 ghost use Rattle.start_waves.specs.Waits.{waitsMost};
-ghost use Rattle.start_waves.specs.Listed.{ColumnsFit, startedBefore, passes, waitsFrom, joinsAt, reached, AddsWave, ListsWaves};
+ghost use Rattle.start_waves.specs.Listed.{ArraysFit, startedBefore, passes, waitsFrom, joinsAt, reached, AddsWave, ListsWaves};
 
 // The wave of each place, 0 for none, and how many clusters are listed.
 pub struct Started {
@@ -91,7 +91,7 @@ fn add_wave(
     started: Started,
     buffer: &mut [u32],
 ) -> Started
-    requires { ⌜ ColumnsFit (now parts) (now waits) size × (1 ≤ number) × (2 * reached started size ≤ length (now buffer)) ⌝ }
+    requires { ⌜ ArraysFit (now parts) (now waits) size × (1 ≤ number) × (2 * reached started size ≤ length (now buffer)) ⌝ }
     ensures room { λ r. ⌜ (reached r size ≡ reached started size) × (started .count ≤ r .count) ⌝ }
     ensures listed { λ r. ⌜ AddsWave closing (now (parts .entry)) (now (waits .entry)) size number started r (now (buffer .entry)) (now (buffer .exit)) ⌝ }
 {
@@ -112,15 +112,15 @@ fn add_wave(
     }
 }
 
-// The waves of the table that the columns are of. Each round but the last lists a cluster; where one lists none the rest close. Its caller
-// `write_waves` has the columns of a table and the room for every cluster.
+// The waves of the table that the arrays are of. Each round but the last lists a cluster; where one lists none the rest close. Its caller
+// `write_waves` has the arrays of a table and the room for every cluster.
 pub fn list_waves(
     parts: &[u32; CLUSTERS_MOST],
     waits: &[usize; WAITS_MOST],
     size: usize,
     buffer: &mut [u32],
 )
-    requires { ⌜ ColumnsFit (now parts) (now waits) size × (2 * size ≤ length (now buffer)) ⌝ }
+    requires { ⌜ ArraysFit (now parts) (now waits) size × (2 * size ≤ length (now buffer)) ⌝ }
     ensures { λ r. ⌜ ListsWaves (now (parts .entry)) (now (waits .entry)) size (now (buffer .entry)) (now (buffer .exit)) ⌝ }
 {
     let mut started = Started {

@@ -1,58 +1,70 @@
--- `checksum::continue_sum` meets its contract. The loop's invariant: the pair so far is within its limit, and continued over the
--- bytes from `i` on it is the pair that the whole part gives. The measure is what is left of the part. Assumes nothing.
-use Prim.Native.Nat.{_-_}
+-- `checksum::continue_sum` meets its contract: a part is its two halves joined. Assumes nothing.
+use Prim.Native.Nat.{ℕ, _-_, _/_}
 use mathlib.Core.Bool.{true}
-use mathlib.Core.Path.{_≡_, sym, _∙_}
-use lib.ListN.{length, drop}
+use mathlib.Core.Path.{_≡_, ap, sym, _∙_}
+use mathlib.Core.List.{List}
+use native.Mathlib.Omega.{arith}
+use lib.ListN.{length, take, drop, length-drop, take-append-drop}
+use lib.Seq.{take-all}
 use borrow.Author.Needs.{needs}
+use Rattle.checksum.specs.declared.Sums.{Sums}
 use Rattle.checksum.specs.Sum.{continued, sumsWithin}
-use Rattle.checksum.proofs.Laws.{continued-turn, continued-end, step-within}
+use Rattle.checksum.proofs.Laws.{continued-within, continued-append}
 use Rattle.checksum.proofs.continue_sum.Statement.{statement}
 use Rattle.checksum.proofs.continue_sum.Tie as tie
 
-abbrev Inv-loop : tie.InvT-loop
-Inv-loop part so-far₀ i₀ so-far i = (sumsWithin so-far ≡ true) × (continued so-far₀ part ≡ continued so-far (drop i part))
+-- the pair of the first half is within its limit
+half-within : (s first : Sums) (bytes : List ℕ) → sumsWithin s ≡ true → first ≡ continued s bytes → sumsWithin first ≡ true
+half-within s first bytes t e = rw e (continued-within s bytes t)
 
-abbrev μ-loop : tie.MeasureT-loop
-μ-loop part so-far₀ i₀ so-far i = length part - i
+-- the pair of a part, from those of its two halves as the code takes them
+halves : (s first both : Sums) (part : List ℕ)
+    → first ≡ continued s (take (length part / 2 - 0) (drop 0 part))
+    → both ≡ continued first (take (length part - length part / 2) (drop (length part / 2) part))
+    → both ≡ continued s part
+halves s first both part e₁ e₂ =
+    let half = length part / 2 in
+    let rest : take (length part - half) (drop half part) ≡ drop half part = take-all (length part - half) (drop half part) (omega (arith, length-drop half part)) in
+    let start : half - 0 ≡ half = omega arith in
+    rw (e₂, e₁, rest, start) (sym (continued-append s (take half part) (drop half part)) ∙ ap (continued s) (take-append-drop half part))
 
-loop-holds : tie.Need-loop-holds Inv-loop μ-loop
-loop-holds c = search needs
+sub-add-bytes : tie.Need-sub-add-bytes
+sub-add-bytes c = search needs
 
-shared-slice-read-add-byte : tie.Need-shared-slice-read-add-byte Inv-loop μ-loop
-shared-slice-read-add-byte c = search needs
+part-add-bytes-start : tie.Need-part-add-bytes-start
+part-add-bytes-start c = search needs
 
-add-byte-requires : tie.Need-add-byte-requires Inv-loop μ-loop
-add-byte-requires c κs = search needs
+part-add-bytes-end : tie.Need-part-add-bytes-end
+part-add-bytes-end c = search needs
 
-add-i : tie.Need-add-i Inv-loop μ-loop
-add-i c = search needs
+add-bytes-requires : tie.Need-add-bytes-requires
+add-bytes-requires c κs = search needs
 
-loop-less : tie.Need-loop-less Inv-loop μ-loop
-loop-less c = search needs
+sub-add-bytes-2 : tie.Need-sub-add-bytes-2
+sub-add-bytes-2 c = search needs
 
-loop-again : tie.Need-loop-again Inv-loop μ-loop
-loop-again c =
-    let at = c .before .before .before .loop in
-    let bytes = c .before .before .before .before .before .args .part .now in
-    let e = c .add-byte .ensures in (
-      rw e (step-within _ _),
-      at .inv .1 ∙ continued-turn (at .so-far) bytes (at .i) (c .before .before .loop-test .taken) ∙ rw e,
-    )
+part-add-bytes-start-2 : tie.Need-part-add-bytes-start-2
+part-add-bytes-start-2 c = search needs
 
-returns : tie.Need-returns Inv-loop μ-loop
-returns c = sym (c .before .loop .inv .1 ∙ continued-end _ _ _ (c .loop-test .left))
+part-add-bytes-end-2 : tie.Need-part-add-bytes-end-2
+part-add-bytes-end-2 c = search needs
+
+add-bytes-requires-2 : tie.Need-add-bytes-requires-2
+add-bytes-requires-2 c κs = search half-within
+
+returns : tie.Need-returns
+returns c = halves _ _ _ _ (c .before .before .add-bytes .ensures) (c .add-bytes2 .ensures)
 
 pub continue-sum-spec : {M : Type 1} → statement M
 continue-sum-spec =
     tie.close
     (tie.spec
-    Inv-loop
-    μ-loop
-    loop-holds
-    shared-slice-read-add-byte
-    add-byte-requires
-    add-i
-    loop-less
-    loop-again
+    sub-add-bytes
+    part-add-bytes-start
+    part-add-bytes-end
+    add-bytes-requires
+    sub-add-bytes-2
+    part-add-bytes-start-2
+    part-add-bytes-end-2
+    add-bytes-requires-2
     returns)

@@ -16,8 +16,8 @@ pub fn show_case(case: &[u8]) {
     show::with_fields(sentence, case);
     let kind = kind_of(
         sentence,
-        b"number `%` up to %:;number written in;version `%`:;sum of `%` and `%`:;% above %:;need of % at %, 20 at %:;% needs %:;% %:;list, %:;package, %:;longest lists:;",
-        11,
+        b"number `%` up to %:;number written in;version `%`:;sum of `%` and `%`:;% above %:;need of % at %, 20 at %:;% needs %:;% %:;list, %:;package, %:;longest lists:;sum of all bytes in order from % on, then those before:;",
+        12,
     );
     match kind {
         0 => numbers::read(case),
@@ -31,6 +31,7 @@ pub fn show_case(case: &[u8]) {
         8 => lists::list(case),
         9 => packages::package(case),
         10 => lists::longest(),
+        11 => sums::sum_in_order(case),
         _ => show::bytes(b" no such kind of case\n"),
     }
 }

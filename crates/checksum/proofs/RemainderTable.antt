@@ -8,7 +8,8 @@ use native.Mathlib.Nat.{not-suc-le-zero}
 use native.Mathlib.Omega.{arith}
 use lib.Dec.{eqb}
 use lib.ListN.{length, getD, take, drop, length-drop}
-use lib.Seq.{take-all, getD-drop}
+use lib.Seq.{getD-drop}
+use borrow.Rule.Slice.PartAt.{part-to-end}
 use borrow.Author.Tests.{eqb-true}
 use Rattle.base.proofs.Tests.{and-left, and-right}
 use Rattle.checksum.specs.RemainderTable.{remaindersFrom, isRemainderTable}
@@ -36,11 +37,8 @@ module _ (table : List ℕ) (t : isRemainderTable table ≡ true) where
     abbrev part : List ℕ
     part = take (length table - added) (drop added table)
 
-    part-drops : part ≡ drop added table
-    part-drops = take-all (length table - added) (drop added table) (omega (arith, length-drop added table))
-
     pub part-reaches : sum < length part
-    part-reaches = omega (arith, ap length part-drops, length-drop added table, table-length)
+    part-reaches = omega (arith, ap length (part-to-end table added), length-drop added table, table-length)
 
     pub remainder-in-part : getD part sum 0 ≡ (sum + added) % 255
-    remainder-in-part = rw (part-drops, getD-drop added table sum 0, remainder-at (added + sum) (omega arith)) (omega arith)
+    remainder-in-part = rw (part-to-end table added, getD-drop added table sum 0, remainder-at (added + sum) (omega arith)) (omega arith)

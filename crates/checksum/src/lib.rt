@@ -81,8 +81,8 @@ fn add_byte(table: &[u8], sums: Sums, byte: u8) -> Sums
     Sums { c0: c0, c1: c1 }
 }
 
-// The pair after the bytes of a part. `continue_sum` meets the limit. The table is copied once, before the first byte, where there
-// is one: read from the constant, it would be built anew at each.
+// The pair after the bytes of a part. `continue_sum` meets the limit. The table is copied before the first byte: read from the
+// constant, it would be built anew at each. No bytes need none, and a part of one byte has an empty half.
 fn add_bytes(sums: Sums, part: &[u8]) -> Sums
     requires { ⌜ sumsWithin sums ≡ true ⌝ }
     ensures { λ r. ⌜ r ≡ continued sums (now (part .entry)) ⌝ }

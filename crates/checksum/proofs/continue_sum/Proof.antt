@@ -4,8 +4,8 @@ use mathlib.Core.Bool.{true}
 use mathlib.Core.Path.{_≡_, ap, sym, _∙_}
 use mathlib.Core.List.{List}
 use native.Mathlib.Omega.{arith}
-use lib.ListN.{length, take, drop, length-drop, take-append-drop}
-use lib.Seq.{take-all}
+use lib.ListN.{length, take, drop, take-append-drop}
+use borrow.Rule.Slice.PartAt.{part-to-end}
 use borrow.Author.Needs.{needs}
 use Rattle.checksum.specs.declared.Sums.{Sums}
 use Rattle.checksum.specs.Sum.{continued, sumsWithin}
@@ -24,9 +24,9 @@ halves : (s first both : Sums) (part : List ℕ)
     → both ≡ continued s part
 halves s first both part e₁ e₂ =
     let half = length part / 2 in
-    let rest : take (length part - half) (drop half part) ≡ drop half part = take-all (length part - half) (drop half part) (omega (arith, length-drop half part)) in
     let start : half - 0 ≡ half = omega arith in
-    rw (e₂, e₁, rest, start) (sym (continued-append s (take half part) (drop half part)) ∙ ap (continued s) (take-append-drop half part))
+    let joined = sym (continued-append s (take half part) (drop half part)) ∙ ap (continued s) (take-append-drop half part) in
+    rw (e₂, e₁, part-to-end part half, start) joined
 
 sub-add-bytes : tie.Need-sub-add-bytes
 sub-add-bytes c = search needs

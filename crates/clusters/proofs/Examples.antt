@@ -8,7 +8,7 @@ use lib.ListN.{getD, replicate}
 use Rattle.text.specs.declared.version.Version.{Version}
 use Rattle.text.specs.Version.{version, versionWithin}
 use Rattle.clusters.specs.declared.cluster.Need.{Need}
-use Rattle.clusters.specs.Version.{above, atOrAbove}
+use Rattle.clusters.specs.Version.{above, atOrAbove, fulfils}
 use Rattle.clusters.specs.Cluster.{Cluster, markedCluster, cluster, need, withNeed, withMark, partWithin, needWithin, needsWithin, clusterWithin}
 use Rattle.clusters.specs.Columns.{markOf}
 use Rattle.clusters.specs.Table.{Table, find, meets, meetsAll, needsMetOf, needsMet, risingAbove, tableWithin}
@@ -178,17 +178,50 @@ found = refl
 
 -- ---- needs
 
--- "met by a table that holds that cluster at the least version or above"
+-- "met by a table that holds that cluster at the least version or above", A.5: "and has the same first part"
 pub met : AllHold (meets three) (
     need 10 (version 1 0 4 0) gives true
     ∷ need 10 (version 1 0 4 1) gives false
-    ∷ need 10 lowest gives true
+    ∷ need 10 lowest gives false
     ∷ need 20 lowest gives true
     ∷ need 20 (version 0 0 0 1) gives false
     ∷ need 15 lowest gives false
+    ∷ need 15 (version 1 0 4 0) gives false
     ∷ [])
-unfolding above atOrAbove find meets
+unfolding above atOrAbove fulfils find meets
 met = refl
+
+-- whether a table that holds 20 at the first version meets the need of 20 with the second as its least
+abbrev metAt : Version × Version → Bool
+metAt p = meets (cluster 20 (p .0) [] ∷ []) (need 20 (p .1))
+
+-- the main versions below and above that of the least, and the last version of its own
+pub metInMainVersion : AllHold metAt (
+    (version 1 0 4 0, version 1 0 4 0) gives true
+    ∷ (version 1 65535 65535 65535, version 1 0 4 0) gives true
+    ∷ (version 1 0 3 65535, version 1 0 4 0) gives false
+    ∷ (version 2 0 0 0, version 1 0 4 0) gives false
+    ∷ (version 0 65535 0 0, version 1 0 4 0) gives false
+    ∷ (version 0 0 0 1, lowest) gives true
+    ∷ (version 1 0 0 0, lowest) gives false
+    ∷ [])
+unfolding above atOrAbove fulfils find meets
+metInMainVersion = refl
+
+-- whether a table that holds 20 at this version meets its need at 1.0.4.0 and its need at 2.0.0.0
+abbrev metTwice : Version → Bool
+metTwice v = meetsAll (cluster 20 v [] ∷ []) (need 20 (version 1 0 4 0) ∷ need 20 (version 2 0 0 0) ∷ [])
+
+-- no version meets the same need in two main versions
+pub neverMet : AllHold metTwice (
+    version 1 0 4 0 gives false
+    ∷ version 1 65535 65535 65535 gives false
+    ∷ version 2 0 0 0 gives false
+    ∷ version 2 65535 65535 65535 gives false
+    ∷ version 3 0 0 0 gives false
+    ∷ [])
+unfolding above atOrAbove fulfils find meets meetsAll
+neverMet = refl
 
 -- 10 and 20 at 1.0.4.0, with needs
 abbrev pair : List Need → List Need → Table
@@ -212,6 +245,9 @@ pub allMet : AllHold needsMet (
     ∷ pair (high 10 ∷ low 20 ∷ []) [] gives false
     ∷ pair (low 10 ∷ high 20 ∷ []) [] gives false
     ∷ pair [] (low 20 ∷ low 30 ∷ []) gives false
+    -- a need of itself in another main version
+    ∷ pair (need 10 (version 0 0 4 0) ∷ []) [] gives false
+    ∷ pair [] (low 10 ∷ need 20 (version 2 0 4 0) ∷ []) gives false
     ∷ [])
-unfolding above atOrAbove find meets meetsAll needsMetOf needsMet
+unfolding above atOrAbove fulfils find meets meetsAll needsMetOf needsMet
 allMet = refl

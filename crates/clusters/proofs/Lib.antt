@@ -2,6 +2,7 @@ pub mod Arrays
 pub mod Along
 pub mod Limits
 pub mod Finding
+pub mod Meaning
 pub mod Equal
 pub mod Placing
 pub mod ColumnLaws

@@ -6,7 +6,7 @@ use mathlib.Core.Option.{Option, none, some}
 use lib.Dec.{eqb, leb, ltb}
 use lib.ListN.{length}
 use Rattle.clusters.specs.declared.cluster.Need.{Need}
-use Rattle.clusters.specs.Version.{atOrAbove}
+use Rattle.clusters.specs.Version.{fulfils}
 use Rattle.clusters.specs.Cluster.{Cluster, clusterWithin}
 
 -- "Two tables are equal when they have the same clusters with equal versions and needs", A.2: "only with equal marks": equal lists
@@ -18,9 +18,9 @@ unfoldable pub find : ℕ → Table → Option Cluster
 find part [] = none
 find part (c ∷ t) = cond (eqb part (c .part)) (some c) (find part t)
 
--- "It is met by a table that holds that cluster at the least version or above"
+-- "It is met by a table that holds that cluster at the least version or above", A.5: "and has the same first part"
 unfoldable pub meets : Table → Need → Bool
-meets t n = elim (find (n .part) t) [ none ↦ false | some c ↦ atOrAbove (c .version) (n .least) ]
+meets t n = elim (find (n .part) t) [ none ↦ false | some c ↦ fulfils (c .version) (n .least) ]
 
 -- each of these needs is met by the table
 unfoldable pub meetsAll : Table → List Need → Bool

@@ -1,5 +1,5 @@
--- How versions compare.
-use mathlib.Core.Bool.{Bool, cond, not}
+-- How versions compare, and which of them meet a need.
+use mathlib.Core.Bool.{Bool, cond, not, _&&_}
 use lib.Dec.{eqb, ltb}
 use Rattle.text.specs.declared.version.Version.{Version}
 
@@ -17,3 +17,7 @@ above v w =
 -- "at the least version or above": the least version is not above it
 unfoldable pub atOrAbove : Version → Version → Bool
 atOrAbove v least = not (above least v)
+
+-- A.5: "a need is met by a version that is at or above the least and has the same first part"
+unfoldable pub fulfils : Version → Version → Bool
+fulfils v least = eqb (v .first) (least .first) && atOrAbove v least

@@ -6,7 +6,7 @@ use crate::columns::Columns;
 use crate::columns::columns_of;
 use crate::columns::place_of;
 use crate::table::Table;
-use crate::version::at_or_above;
+use crate::version::fulfils;
 use place_in_list::Found;
 ghost use mathlib.Core.Path.{_≡_};
 ghost use mathlib.Core.Bool.{true};
@@ -16,7 +16,7 @@ ghost use Rattle.clusters.specs.Table.{Table as PlainTable, meets, meets
 ghost use Rattle.clusters.specs.View.{viewCluster, viewTable};
 ghost use Rattle.clusters.specs.Columns.{ColumnsOf};
 
-// Whether the table with these columns holds the needed cluster at the least version or above.
+// Whether the table with these columns holds the needed cluster at a version that fulfils the least one.
 fn meets_in(columns: Columns, n: Need) -> bool
     requires { ⌜ columns .count ≤ clustersMost ⌝ }
     ensures { λ r. ⌜ ((t : PlainTable) → ColumnsOf columns t → r ≡ meets t n) ⌝ }
@@ -26,7 +26,7 @@ fn meets_in(columns: Columns, n: Need) -> bool
         return false;
     };
     let version = columns.versions[i];
-    at_or_above(version, n.least)
+    fulfils(version, n.least)
 }
 
 // Whether the table with these columns meets each need of one cluster.
@@ -46,7 +46,7 @@ fn meets_all_in(columns: Columns, c: Cluster) -> bool
     true
 }
 
-// Whether the table holds the needed cluster at the least version or above.
+// Whether the table holds the needed cluster at a version that fulfils the least one.
 pub fn meets(t: Table, n: Need) -> bool
     requires { ⌜ t .count ≤ clustersMost ⌝ }
     ensures { λ r. ⌜ r ≡ meets (viewTable t) n ⌝ }

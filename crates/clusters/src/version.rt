@@ -1,7 +1,7 @@
-// How versions compare.
+// How versions compare, and which of them meet a need.
 use text::version::Version;
 ghost use mathlib.Core.Path.{_≡_};
-ghost use Rattle.clusters.specs.Version.{above, atOrAbove};
+ghost use Rattle.clusters.specs.Version.{above, atOrAbove, fulfils};
 
 // Whether v is above w: the first part from the left that differs decides.
 pub fn above(v: Version, w: Version) -> bool
@@ -24,4 +24,14 @@ pub fn at_or_above(v: Version, least: Version) -> bool
     ensures { λ r. ⌜ r ≡ atOrAbove v least ⌝ }
 {
     !above(least, v)
+}
+
+// Whether v meets a need with this least version: it has the same first part and is the least version or above.
+pub fn fulfils(v: Version, least: Version) -> bool
+    ensures { λ r. ⌜ r ≡ fulfils v least ⌝ }
+{
+    if v.first != least.first {
+        return false;
+    }
+    at_or_above(v, least)
 }

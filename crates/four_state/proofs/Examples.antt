@@ -8,6 +8,9 @@ use mathlib.Core.List.{List, [], _∷_, map}
 use mathlib.Core.Option.{none, some}
 use lib.ListN.{replicate}
 use Rattle.base.proofs.Tables.{_gives_, AllHold}
+use Rattle.text.specs.declared.version.Version.{Version}
+use Rattle.text.specs.Version.{version}
+use Rattle.clusters.specs.Cluster.{cluster}
 use Rattle.clusters.specs.Table.{Table}
 use Rattle.actions.specs.Action.{install, update}
 use Rattle.model.specs.State.{transferred, verifyingRollsBack, activatedRollsBack, readyCleansUp, activatedCleansUp, rolledBackCleansUp, idle, ready, processing, activating, verifying, activated, rollingBack, rolledBack, cleaningUp}
@@ -69,6 +72,12 @@ every-cell : AllHold cells
     ∷ [])
 unfolding computing oldStep oldAnswers furtherAnswers statusOf
 every-cell = refl
+
+-- A.5, "Report and the old Activate of A.1 use the new meaning": the cluster that 30 needs is updated in its main version, and to the next
+updates-of-20 : AllHold (λ (v : Version). answer (readyWith (cluster20 ∷ dependent30 ∷ []) (update (cluster 20 v []) ∷ []) []) Activate)
+    (version 1 65535 65535 65535 gives 0 ∷ version 2 0 0 0 gives 4 ∷ [])
+unfolding computing oldStep oldAnswers furtherAnswers
+updates-of-20 = refl
 
 -- "1 for any other refusal": packages that are not processing, and ids that no package has
 other-ids : AllHold (λ id. answer eachStart (Cancel id)) (3 gives 0 ∷ 0 gives 1 ∷ 1 gives 1 ∷ 2 gives 1 ∷ 4 gives 1 ∷ 5 gives 1 ∷ 6 gives 1 ∷ [])

@@ -73,9 +73,10 @@ waves-computed : AllHold waves
     gives (50 ∷ 1 ∷ 40 ∷ 2 ∷ 30 ∷ 3 ∷ 20 ∷ 4 ∷ 10 ∷ 5 ∷ [])
     -- needs in several waves: behind the last of these, wherever it stands among the needs
     ∷ (needing 10 [] ∷ needing 20 (10 ∷ []) ∷ needing 30 (10 ∷ 20 ∷ []) ∷ needing 40 (20 ∷ 10 ∷ []) ∷ []) gives (10 ∷ 1 ∷ 20 ∷ 2 ∷ 30 ∷ 3 ∷ 40 ∷ 3 ∷ [])
-    -- a need twice; one whose least is not met; a mark
+    -- a need twice; one whose least is not met; one of a cluster in the next main version (A.5); a mark
     ∷ (needing 10 (20 ∷ 20 ∷ []) ∷ needing 20 [] ∷ []) gives (20 ∷ 1 ∷ 10 ∷ 2 ∷ [])
     ∷ (cluster 10 (version 1 0 0 0) (need 20 (version 2 0 0 0) ∷ []) ∷ needing 20 [] ∷ []) gives (20 ∷ 1 ∷ 10 ∷ 2 ∷ [])
+    ∷ (needing 10 (20 ∷ []) ∷ cluster 20 (version 2 0 0 0) [] ∷ []) gives (20 ∷ 1 ∷ 10 ∷ 2 ∷ [])
     ∷ (markedCluster 10 (version 1 0 0 0) (need 20 (version 1 0 0 0) ∷ []) true ∷ needing 20 [] ∷ []) gives (20 ∷ 1 ∷ 10 ∷ 2 ∷ [])
     -- a chain that ends at an absent cluster, alone and beside a cluster that starts
     ∷ (needing 10 (20 ∷ []) ∷ needing 20 (99 ∷ []) ∷ []) gives (10 ∷ 1 ∷ 20 ∷ 1 ∷ [])

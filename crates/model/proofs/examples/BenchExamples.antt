@@ -58,9 +58,10 @@ pub record BenchExamples : Type 0 where
   pub m7 : Hold (from loaded calls (callsToTransfer 1 sameVersionText ++ process 1 isRefusedBy 14 ∷ []) ∷ [])
   -- "M8 Finish in Verifying: 3."
   pub m8 : HoldLooking (λ r. r .state .phase) (from loaded calls (toVerifying ++ finish isRefusedBy 3 ∷ []) ends verifying ∷ [])
-  -- "M9 least 1.0.4.0 is met by 1.0.4.0, not by 1.0.3.9."
+  -- "M9 least 1.0.4.0 is met by 1.0.4.0, not by 1.0.3.9." A.5: "M9 gains a row: least 1.0.4.0 is not met by 2.0.0.0."
   pub m9 : (meets (cluster 20 (version 1 0 4 0) [] ∷ []) (need 20 (version 1 0 4 0)) ≡ true)
       × (meets (cluster 20 (version 1 0 3 9) [] ∷ []) (need 20 (version 1 0 4 0)) ≡ false)
+      × (meets (cluster 20 (version 2 0 0 0) [] ∷ []) (need 20 (version 1 0 4 0)) ≡ false)
   -- "M10 the package .. has 91 bytes and is well formed."
   pub m10 : (length installText ≡ 91)
       × (readPackage installText
@@ -84,6 +85,6 @@ benchExamples =
       m6 = refl;
       m7 = refl;
       m8 = refl;
-      m9 = (refl, refl);
+      m9 = (refl, refl, refl);
       m10 = (refl, refl);
     }

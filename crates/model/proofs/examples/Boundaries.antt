@@ -3,18 +3,19 @@
 -- Assumes nothing.
 use Prim.Native.Nat.{ℕ, zero, suc}
 use mathlib.Core.Path.{_≡_, refl}
+use mathlib.Core.Bool.{true}
 use mathlib.Core.List.{List, [], _∷_, _++_}
 use lib.ListN.{length, replicate}
 use Rattle.base.specs.Quoted.{bytes, LF}
 use Rattle.text.specs.Version.{version}
-use Rattle.clusters.specs.Cluster.{cluster}
+use Rattle.clusters.specs.Cluster.{cluster, need}
 use Rattle.actions.specs.Action.{install, remove}
 use Rattle.model.specs.State.{Store, transferring, transferred}
-use Rattle.model.specs.Calls.{Reply, transferStart, transferData, transferExit, deleteTransfer, process, givenId, done, refused, accepted}
+use Rattle.model.specs.Calls.{Reply, transferStart, transferData, transferExit, deleteTransfer, process, activate, report, givenId, done, missingDependencies, refused, accepted}
 use Rattle.model.specs.Step.{step}
 use Rattle.model.specs.Load.{loadedState}
 use Rattle.model.proofs.examples.Open.{computing}
-use Rattle.model.proofs.examples.Transcript.{line, packageText, loadedWith, _gives_, _isRefusedBy_, Answered, from_calls_, Hold}
+use Rattle.model.proofs.examples.Transcript.{line, packageText, loadedWith, _gives_, _isRefusedBy_, callsToProcess, callsToVerifying, Answered, from_calls_, Hold}
 use Rattle.model.proofs.examples.Samples.{clusters, begun, idleWith, idleFrom, idleHolding, readyWith}
 
 -- ---- TransferStart
@@ -146,6 +147,13 @@ ofProcess =
     ∷ process 5 isRefusedBy 14
     ∷ process 6 gives done
     ∷ [])
+    -- an update to the next main version is above too. What needs the version before then decides at Activate (A.5), until it is updated
+    ∷ from idleFrom
+    (cluster 11 (version 1 0 0 3) (need 20 (version 2 0 0 0) ∷ []) ∷ cluster 20 (version 2 3 4 5) [] ∷ [])
+    transferred
+    (packageText "update,20,3.0.0.0,0,0,," "" ∷ packageText "update,11,1.0.0.4,0,0,20,3.0.0.0" "" ∷ [])
+    calls
+    (callsToProcess 1 0 ++ (activate gives done ∷ report true gives missingDependencies ∷ []) ++ callsToProcess 2 0 ++ callsToVerifying)
     -- 15: the 64th cluster, and none more; what counts is staged, not what the session began with
     ∷ from readyWith (clusters 63 101) (remove 101 ∷ install (cluster 31 (version 1 0 0 0) []) ∷ []) (installText ∷ []) calls (process 3 gives done ∷ [])
     ∷ from readyWith (clusters 63 101) (install (cluster 31 (version 1 0 0 0) []) ∷ []) (installText ∷ []) calls (process 2 isRefusedBy 15 ∷ [])

@@ -10,7 +10,7 @@ use Rattle.rows.specs.Field.{endsField, field, behindField, cell}
 use Rattle.rows.specs.Line.{lineFrom, lineText}
 use Rattle.rows.specs.Columns.{columnFrom, clusterColumns, packageColumns}
 use Rattle.rows.specs.ListColumns.{fourColumns, fiveColumns, listColumns}
-use Rattle.clusters.specs.Version.{above, atOrAbove}
+use Rattle.clusters.specs.Version.{above, atOrAbove, fulfils}
 use Rattle.clusters.specs.Cluster.{partWithin, needWithin, needsWithin, clusterWithin}
 use Rattle.clusters.specs.Table.{find as findCluster, meets, meetsAll, needsMetOf, needsMet, risingAbove, tableWithin}
 use Rattle.actions.specs.Action.{insert, replace, takeOut, apply, applyAll, actionWithin, actionsWithin}
@@ -32,5 +32,5 @@ use Rattle.model.specs.Journal.{opened, actionIn, blockJoined, returned,
 use Rattle.model.specs.Reading.{furtherReportRefusals, reportRefusals, reportReply, reportBuffer, reportOf, packagesReport, clusterInfoReport, changeInfoReport, packageRecords, clusterInfo, changeLines, changeInfo, furtherPayloadRefusals, payloadRefusals, payloadPart, payloadReply, payload, payloadCheck, progressOf, progressRefusals, progress}
 
 unfoldable pub computing : Unit {0}
-unfolding firstRefusal noneApplies sumStep continued sumNumber sumOf sumsWithin digitOf numberGoesOn numberBegins wholeNumber versionWithin dottedAt versionAt wholeVersion versionText sameBytes digitsIn digits endsField field behindField cell lineFrom lineText columnFrom clusterColumns packageColumns fourColumns fiveColumns listColumns above atOrAbove partWithin needWithin needsWithin clusterWithin findCluster insert replace takeOut meets meetsAll needsMetOf needsMet risingAbove tableWithin apply applyAll touched clusterPresent clusterAbsent clusterStays oldVersion tableFull actionRefusals passes passInTurn actionWithin actionsWithin partField needOf markField noMark lastPart clusterAdded needAdded needLine clusterBegun clusterLine valueLine valueLines readList needLineText needLinesText clusterLines clustersText listText changeOf removeHeading clusterHeading firstLine onlyNeed furtherLines packageWith readPackage allowed declared free find packageOf areaStart areaOf overwritten blockPut remaining remainingAreas deleted changed countIn processingId staged runningIn running storeSound receivedSound packageSound packagesRise transfersSound isListed processedAsListed listSound sessionSound workSound keptSound processingSound listFits soundFor ownRefusals furtherRefusals refusals sumCompared worked cleanedUp reportOutcome act step isBadLoad load run acceptedOnly opened actionIn blockJoined returned packageProcessed packageLeft reportDone workNoted reportNoted acceptedNoted noted journal furtherReportRefusals reportRefusals reportReply reportBuffer reportOf packagesReport clusterInfoReport changeInfoReport packageRecords clusterInfo changeLines changeInfo furtherPayloadRefusals payloadRefusals payloadPart payloadReply payload payloadCheck progressOf progressRefusals progress
+unfolding firstRefusal noneApplies sumStep continued sumNumber sumOf sumsWithin digitOf numberGoesOn numberBegins wholeNumber versionWithin dottedAt versionAt wholeVersion versionText sameBytes digitsIn digits endsField field behindField cell lineFrom lineText columnFrom clusterColumns packageColumns fourColumns fiveColumns listColumns above atOrAbove fulfils partWithin needWithin needsWithin clusterWithin findCluster insert replace takeOut meets meetsAll needsMetOf needsMet risingAbove tableWithin apply applyAll touched clusterPresent clusterAbsent clusterStays oldVersion tableFull actionRefusals passes passInTurn actionWithin actionsWithin partField needOf markField noMark lastPart clusterAdded needAdded needLine clusterBegun clusterLine valueLine valueLines readList needLineText needLinesText clusterLines clustersText listText changeOf removeHeading clusterHeading firstLine onlyNeed furtherLines packageWith readPackage allowed declared free find packageOf areaStart areaOf overwritten blockPut remaining remainingAreas deleted changed countIn processingId staged runningIn running storeSound receivedSound packageSound packagesRise transfersSound isListed processedAsListed listSound sessionSound workSound keptSound processingSound listFits soundFor ownRefusals furtherRefusals refusals sumCompared worked cleanedUp reportOutcome act step isBadLoad load run acceptedOnly opened actionIn blockJoined returned packageProcessed packageLeft reportDone workNoted reportNoted acceptedNoted noted journal furtherReportRefusals reportRefusals reportReply reportBuffer reportOf packagesReport clusterInfoReport changeInfoReport packageRecords clusterInfo changeLines changeInfo furtherPayloadRefusals payloadRefusals payloadPart payloadReply payload payloadCheck progressOf progressRefusals progress
 computing = tt

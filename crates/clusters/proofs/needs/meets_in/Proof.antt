@@ -7,7 +7,7 @@ use Prim.Native.Nat.{_<_}
 use lib.ListN.{take}
 use Rattle.text.specs.declared.version.Version.{Version}
 use Rattle.place_in_list.specs.declared.Found.the-variants.{At}
-use Rattle.clusters.specs.Version.{atOrAbove}
+use Rattle.clusters.specs.Version.{fulfils}
 use Rattle.clusters.specs.View.{noVersion}
 use Rattle.clusters.specs.Place.{placeAmong}
 use Rattle.clusters.proofs.Finding.{meets-none, meets-some}
@@ -44,16 +44,16 @@ mul-version c = omega (arith, below c)
 element-copy-out-version : tie.Need-element-copy-out-version
 element-copy-out-version c = omega (arith, below c)
 
-at-or-above-requires : tie.Need-at-or-above-requires
-at-or-above-requires c κs = search needs
+fulfils-requires : tie.Need-fulfils-requires
+fulfils-requires c κs = search needs
 
 returns-2 : tie.Need-returns-2
 returns-2 c t of =
     let k = c .before .before in
     let a = k .before .before .before .before .before .before .args in
     let f = found-among (a .t1) t of (a .n .part) (k .before .i .given .0 .0) noVersion false (found k) in
-    c .at-or-above .ensures
-    ∙ ap (λ (v : Version). atOrAbove v (a .n .least)) (f .same-version)
+    c .fulfils .ensures
+    ∙ ap (λ (v : Version). fulfils v (a .n .least)) (f .same-version)
     ∙ sym (meets-some t (a .n) (f .found) (f .there))
 
 pub meets-in-spec : {M : Type 1} → statement M
@@ -66,5 +66,5 @@ meets-in-spec =
     returns
     mul-version
     element-copy-out-version
-    at-or-above-requires
+    fulfils-requires
     returns-2)

@@ -1,0 +1,18 @@
+-- What a need means by A.5, in two lines that a reader checks: the version has the first part of the least, and the least is not above
+-- it. Assumes nothing.
+use mathlib.Core.Path.{_≡_, ap}
+use mathlib.Core.Bool.{true, false, not}
+use mathlib.Core.Logic.{_↔_}
+use lib.Dec.{eqb}
+use borrow.Author.Tests.{eqb-true, eq-eqb, not-true}
+use Rattle.base.proofs.Tests.{and-left, and-right, and-both}
+use Rattle.text.specs.declared.version.Version.{Version}
+use Rattle.clusters.specs.Version.{above, atOrAbove, fulfils}
+
+pub fulfils-exactly-when : (v least : Version)
+    → (fulfils v least ≡ true) ↔ ((v .first ≡ least .first) × (above least v ≡ false))
+unfolding atOrAbove fulfils
+fulfils-exactly-when v least = (
+  λ e. (eqb-true _ _ (and-left _ _ e), not-true _ (and-right (eqb (v .first) (least .first)) _ e)),
+  λ both. and-both _ _ (eq-eqb _ _ (both .0)) (ap not (both .1)),
+)

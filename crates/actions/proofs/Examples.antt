@@ -191,10 +191,12 @@ pub refusals : AllHold answered (
     ∷ asked three [] (update (plain 15)) gives refusedBy 13 []
     ∷ asked three [] (remove 15) gives refusedBy 13 []
     ∷ asked three [] (remove 20) gives accepted
-    -- 14: one version below, the same, one above
+    -- 14: one version below, the same, one above; the main version below, and the one above
     ∷ asked three [] (update (older 20)) gives refusedBy 14 []
     ∷ asked three [] (update (plain 20)) gives refusedBy 14 []
     ∷ asked three [] (update (newer 20)) gives accepted
+    ∷ asked three [] (update (cluster 20 (version 0 65535 0 0) [])) gives refusedBy 14 []
+    ∷ asked three [] (update (cluster 20 (version 2 0 0 0) [])) gives accepted
     -- 15: an install, and only that
     ∷ asked (plainTo 63) [] (install (plain 65)) gives accepted
     ∷ asked full [] (install (plain 65)) gives refusedBy 15 []

@@ -53,6 +53,8 @@ pub leastVersions : AllHold (λ (p : Version × Version). atOrAbove (p .0) (p .1
     (version 1 0 4 0, version 1 0 4 0) gives true
     ∷ (version 1 0 4 1, version 1 0 4 0) gives true
     ∷ (version 1 0 3 65535, version 1 0 4 0) gives false
+    ∷ (version 2 0 0 0, version 1 0 4 0) gives true
+    ∷ (version 0 65535 0 0, version 1 0 4 0) gives false
     ∷ [])
 unfolding above atOrAbove
 leastVersions = refl
@@ -212,7 +214,7 @@ metInMainVersion = refl
 abbrev metTwice : Version → Bool
 metTwice v = meetsAll (cluster 20 v [] ∷ []) (need 20 (version 1 0 4 0) ∷ need 20 (version 2 0 0 0) ∷ [])
 
--- no version meets the same need in two main versions
+-- none of these meets the same need in two main versions (`one-main-version` of Meaning says it of every version)
 pub neverMet : AllHold metTwice (
     version 1 0 4 0 gives false
     ∷ version 1 65535 65535 65535 gives false

@@ -9,7 +9,7 @@ ghost use Rattle.clusters.specs.Exact.{newCluster, withNeed, withMark};
 // The most needs that a cluster has: the one place in the code that has this limit.
 pub const NEEDS_MOST: usize = 4;
 
-// Another cluster that must be there, at the least version or above and with its first part.
+// A cluster that must be there, at the least version or above and with the same first part; it may be the cluster itself.
 pub struct Need {
     pub part: u32,
     pub least: Version,

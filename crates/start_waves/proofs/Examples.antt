@@ -27,7 +27,7 @@ entry part wave = record { part = part; wave = wave }
 abbrev three : List WaveEntry
 three = entry 30 1 ∷ entry 10 2 ∷ entry 20 2 ∷ []
 
--- a cluster that needs these, each at 1.0.0.0 or above
+-- a cluster that needs these, each with the least 1.0.0.0
 abbrev pub needing : ℕ → List ℕ → Cluster
 needing part parts = cluster part (version 1 0 0 0) (map (λ (p : ℕ). need p (version 1 0 0 0)) parts)
 
@@ -73,11 +73,13 @@ waves-computed : AllHold waves
     gives (50 ∷ 1 ∷ 40 ∷ 2 ∷ 30 ∷ 3 ∷ 20 ∷ 4 ∷ 10 ∷ 5 ∷ [])
     -- needs in several waves: behind the last of these, wherever it stands among the needs
     ∷ (needing 10 [] ∷ needing 20 (10 ∷ []) ∷ needing 30 (10 ∷ 20 ∷ []) ∷ needing 40 (20 ∷ 10 ∷ []) ∷ []) gives (10 ∷ 1 ∷ 20 ∷ 2 ∷ 30 ∷ 3 ∷ 40 ∷ 3 ∷ [])
-    -- a need twice; one whose least is not met; one of a cluster in the next main version (A.5); a mark
+    -- a need twice; a mark
     ∷ (needing 10 (20 ∷ 20 ∷ []) ∷ needing 20 [] ∷ []) gives (20 ∷ 1 ∷ 10 ∷ 2 ∷ [])
-    ∷ (cluster 10 (version 1 0 0 0) (need 20 (version 2 0 0 0) ∷ []) ∷ needing 20 [] ∷ []) gives (20 ∷ 1 ∷ 10 ∷ 2 ∷ [])
-    ∷ (needing 10 (20 ∷ []) ∷ cluster 20 (version 2 0 0 0) [] ∷ []) gives (20 ∷ 1 ∷ 10 ∷ 2 ∷ [])
     ∷ (markedCluster 10 (version 1 0 0 0) (need 20 (version 1 0 0 0) ∷ []) true ∷ needing 20 [] ∷ []) gives (20 ∷ 1 ∷ 10 ∷ 2 ∷ [])
+    -- A.5: "a need of a present cluster is a wait whether or not its version meets the least": below the least, and in the next main
+    -- version. What waits so does not close: another starts behind it
+    ∷ (cluster 10 (version 1 0 0 0) (need 20 (version 1 0 0 1) ∷ []) ∷ needing 20 [] ∷ needing 30 (10 ∷ []) ∷ []) gives (20 ∷ 1 ∷ 10 ∷ 2 ∷ 30 ∷ 3 ∷ [])
+    ∷ (needing 10 (20 ∷ []) ∷ cluster 20 (version 2 0 0 0) [] ∷ needing 30 (10 ∷ []) ∷ []) gives (20 ∷ 1 ∷ 10 ∷ 2 ∷ 30 ∷ 3 ∷ [])
     -- a chain that ends at an absent cluster, alone and beside a cluster that starts
     ∷ (needing 10 (20 ∷ []) ∷ needing 20 (99 ∷ []) ∷ []) gives (10 ∷ 1 ∷ 20 ∷ 1 ∷ [])
     ∷ (needing 10 (20 ∷ []) ∷ needing 20 (30 ∷ []) ∷ needing 30 (99 ∷ []) ∷ needing 40 [] ∷ []) gives (40 ∷ 1 ∷ 10 ∷ 2 ∷ 20 ∷ 2 ∷ 30 ∷ 2 ∷ [])

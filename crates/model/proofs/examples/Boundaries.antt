@@ -147,7 +147,7 @@ ofProcess =
     ∷ process 5 isRefusedBy 14
     ∷ process 6 gives done
     ∷ [])
-    -- an update to the next main version is above too. What needs the version before then decides at Activate (A.5), until it is updated
+    -- an update to the next main version is above too. A need of the one before is then missed by Report (A.5), until it is updated
     ∷ from idleFrom
     (cluster 11 (version 1 0 0 3) (need 20 (version 2 0 0 0) ∷ []) ∷ cluster 20 (version 2 3 4 5) [] ∷ [])
     transferred

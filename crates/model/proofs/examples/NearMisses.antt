@@ -37,18 +37,18 @@ loadedDependent = loadedFrom (fourNamesText "11,1.0.0.3,20,1.0.0.0" ++ line "20,
 abbrev wrongSumText : List ℕ
 wrongSumText = packageText "remove,20,,0,1,," ""
 
--- 30 needs 40 at 2.0.0.0, which the next brings, and the one behind it does not
+-- 30 needs 40 at 2.0.1.0, which the next brings, and the one behind it does not
 abbrev dependentText : List ℕ
-dependentText = packageText "install,30,1.0.0.0,0,0,40,2.0.0.0" ""
+dependentText = packageText "install,30,1.0.0.0,0,0,40,2.0.1.0" ""
 
 abbrev neededText : List ℕ
-neededText = packageText "install,40,2.0.0.0,0,0,," ""
+neededText = packageText "install,40,2.0.1.0,0,0,," ""
 
 abbrev tooLowText : List ℕ
-tooLowText = packageText "install,40,1.9.9.9,0,0,," ""
+tooLowText = packageText "install,40,2.0.0.9,0,0,," ""
 
 abbrev dependent : Cluster
-dependent = cluster 30 (version 1 0 0 0) (need 40 (version 2 0 0 0) ∷ [])
+dependent = cluster 30 (version 1 0 0 0) (need 40 (version 2 0 1 0) ∷ [])
 
 -- "letting a Work that would end win over a noted cancel": the last bytes, and a payload of 0 bytes
 abbrev cancelWins : List (Case Ending)
@@ -68,7 +68,7 @@ needsOfAll =
     from loaded
     calls
     (callsToTransfer 1 dependentText ++ callsToTransfer 2 neededText ++ callsToProcess 1 0 ++ callsToProcess 2 0 ++ callsToVerifying)
-    ends ending verifying (cluster20 ∷ dependent ∷ cluster 40 (version 2 0 0 0) [] ∷ [])
+    ends ending verifying (cluster20 ∷ dependent ∷ cluster 40 (version 2 0 1 0) [] ∷ [])
     ∷ from loaded
     calls
     (callsToTransfer 1 dependentText

@@ -1,5 +1,5 @@
--- What a need means by A.5, in two lines that a reader checks: the version has the first part of the least, and the least is not above
--- it. Assumes nothing.
+-- What a need means by A.5: the version has the first part of the least, and the least is not above it. So a version meets needs of one
+-- main version alone. Assumes nothing.
 use mathlib.Core.Path.{_≡_, ap, sym, _∙_}
 use mathlib.Core.Bool.{true, false, not}
 use mathlib.Core.Logic.{_↔_}
@@ -17,6 +17,5 @@ fulfils-exactly-when v least = (
   λ both. and-both _ _ (eq-eqb _ _ (both .0)) (ap not (both .1)),
 )
 
--- so a version meets needs of one main version alone
 pub one-main-version : (v least other : Version) → fulfils v least ≡ true → fulfils v other ≡ true → least .first ≡ other .first
 one-main-version v least other e f = sym (fulfils-exactly-when v least .0 e .0) ∙ fulfils-exactly-when v other .0 f .0

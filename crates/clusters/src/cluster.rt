@@ -9,7 +9,7 @@ ghost use Rattle.clusters.specs.Exact.{newCluster, withNeed, withMark};
 // The most needs that a cluster has: the one place in the code that has this limit.
 pub const NEEDS_MOST: usize = 4;
 
-// A cluster that must be there, at the least version or above and with the same first part; it may be the cluster itself.
+// A cluster that must be there, at the least version or above and with the same first part. It may be the one that has the need.
 pub struct Need {
     pub part: u32,
     pub least: Version,

@@ -14,7 +14,7 @@ use Rattle.clusters.specs.Cluster.{cluster}
 use Rattle.clusters.specs.Table.{Table}
 use Rattle.actions.specs.Action.{install, update}
 use Rattle.model.specs.State.{transferred, verifyingRollsBack, activatedRollsBack, readyCleansUp, activatedCleansUp, rolledBackCleansUp, idle, ready, processing, activating, verifying, activated, rollingBack, rolledBack, cleaningUp}
-use Rattle.model.specs.Calls.{cancel, revert, activate, rollback, finish, report, done, preActivationFailed, refused, accepted}
+use Rattle.model.specs.Calls.{process, cancel, revert, activate, rollback, finish, report, done, preActivationFailed, missingDependencies, refused, accepted}
 use Rattle.model.specs.Layers.{madeEvent, runEvents, acceptedEvents, counted, eventsGoOn}
 use Rattle.model.proofs.examples.Open.{computing}
 use Rattle.model.proofs.examples.Transcript.{Start, start}
@@ -155,7 +155,7 @@ mixed =
     ∷ madeEvent (ofTwelve finish) (byTwelve (refused 3))
     ∷ madeEvent (ofTwelve activate) (byTwelve (accepted done))
     ∷ madeEvent (ofFour Rollback) (byFour 2)
-    ∷ madeEvent (ofTwelve (report false)) (byTwelve (accepted preActivationFailed))
+    ∷ madeEvent (ofTwelve (report false)) (byTwelve (accepted missingDependencies))
     ∷ madeEvent (ofFour Revert) (byFour 0)
     ∷ madeEvent (ofTwelve (report true)) (byTwelve (accepted done))
     ∷ madeEvent (ofFour Revert) (byFour 1)
@@ -171,7 +171,7 @@ mixed-answers = refl
 -- without the refused ones of both kinds
 mixed-accepted : acceptedEvents isMixedRefusal mixed
     ≡ madeEvent (ofTwelve activate) (byTwelve (accepted done))
-    ∷ madeEvent (ofTwelve (report false)) (byTwelve (accepted preActivationFailed))
+    ∷ madeEvent (ofTwelve (report false)) (byTwelve (accepted missingDependencies))
     ∷ madeEvent (ofFour Revert) (byFour 0)
     ∷ madeEvent (ofTwelve (report true)) (byTwelve (accepted done))
     ∷ []
@@ -182,12 +182,27 @@ mixed-accepted = refl
 mixed-counted : counted countsAs mixed
     ≡ record { call = finish; reply = refused 3 }
     ∷ record { call = activate; reply = accepted done }
-    ∷ record { call = report false; reply = accepted preActivationFailed }
+    ∷ record { call = report false; reply = accepted missingDependencies }
     ∷ record { call = revert; reply = accepted done }
     ∷ record { call = report true; reply = accepted done }
     ∷ []
 unfolding counted countsAs
 mixed-counted = refl
+
+-- A.6 changes nothing behind an old Activate that was begun: all needs are met in the staged table, whatever the beginning table lacks, so
+-- a bad report is PreActivationFailed
+abbrev begunThenBad : List MixedMade
+begunThenBad =
+    madeEvent (ofFour Activate) (byFour 0)
+    ∷ madeEvent (ofTwelve (process 1)) (byTwelve (refused 3))
+    ∷ madeEvent (ofTwelve (report false)) (byTwelve (accepted preActivationFailed))
+    ∷ madeEvent (ofFour Activate) (byFour 0)
+    ∷ madeEvent (ofTwelve (report true)) (byTwelve (accepted done))
+    ∷ []
+
+begun-then-bad : mixedRun (beginningUnmet .state) (beginningUnmet .store) (map (λ (m : MixedMade). m .event) begunThenBad) .made ≡ begunThenBad
+unfolding computing oldStep oldAnswers furtherAnswers mixedStep runEvents
+begun-then-bad = refl
 
 -- the session goes on up to the Report that ends it, and no further
 mixed-goes-on : AllHold (λ (calls : List MixedCall). eventsGoOn (λ s. s) mixedStep (stagedUnmet .state) (stagedUnmet .store) calls)

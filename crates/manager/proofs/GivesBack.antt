@@ -59,7 +59,8 @@ module _ (s : State) (store : Store) where
   activating-back : (good met : Bool) → Back (activatingReported s good met)
   activating-back true true number = never calls.done number
   activating-back true false number = never calls.missingDependencies number
-  activating-back false met number = never calls.preActivationFailed number
+  activating-back false true number = never calls.preActivationFailed number
+  activating-back false false number = never calls.missingDependencies number
 
   report-back : (phase : Phase) (good : Bool) → GivesBack s store (phaseReported s store phase good)
   unfolding phaseReported

@@ -5,3 +5,4 @@ pub mod AcceptingPackages
 pub mod Accepting
 pub mod Refused
 pub mod NoOtherRefusal
+pub mod ReportInActivating

@@ -54,9 +54,10 @@ pub data Moves (met : Bool) : Call → Answer → Phase → Phase → Type 0 whe
   finishesActivated : Moves met finish done activated (cleaningUp activatedCleansUp)
   finishesRolledBack : Moves met finish done rolledBack (cleaningUp rolledBackCleansUp)
   -- "Activating: bad gives Ready, PreActivationFailed. Good gives Ready, MissingDependencies, if some need of some cluster isn't met in
-  -- the staged table; else Verifying."
-  activationFails : Moves met (report false) preActivationFailed activating ready
-  needsMissing : met ≡ false → Moves met (report true) missingDependencies activating ready
+  -- the staged table; else Verifying."; of bad with an unmet need A.6: "From now on the two together give MissingDependencies, still
+  -- with Ready."
+  activationFails : met ≡ true → Moves met (report false) preActivationFailed activating ready
+  needsMissing : (good : Bool) → met ≡ false → Moves met (report good) missingDependencies activating ready
   activationSucceeds : met ≡ true → Moves met (report true) done activating verifying
   -- "Verifying: good gives Activated, bad stays, VerificationFailed."
   verificationSucceeds : Moves met (report true) done verifying activated

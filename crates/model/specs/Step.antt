@@ -172,11 +172,13 @@ phaseAfter [] = idle
 phaseAfter (e ∷ entries) = ready
 
 -- "Activating: bad gives Ready, PreActivationFailed. Good gives Ready, MissingDependencies, if some need of some cluster isn't
--- met in the staged table; else Verifying."
+-- met in the staged table; else Verifying."; of bad with an unmet need A.6: "From now on the two together give MissingDependencies,
+-- still with Ready." By good, and by whether all needs are met
 abbrev pub activatingAnswer : Bool → Bool → Answer
-activatingAnswer false met = preActivationFailed
-activatingAnswer true false = missingDependencies
 activatingAnswer true true = done
+activatingAnswer true false = missingDependencies
+activatingAnswer false true = preActivationFailed
+activatingAnswer false false = missingDependencies
 
 abbrev pub activatingPhase : Bool → Bool → Phase
 activatingPhase false met = ready

@@ -96,9 +96,10 @@ module _ (s : State) (store : Store) where
   -- in Activating, by good and by whether the needs are met
   view-activating : (good met : Bool)
       → viewOutcome (outcome (activatingReported s good met) store) ≡ movesTo (viewState s) store (activatingPhase good met) (activatingAnswer good met)
-  view-activating false met = refl
-  view-activating true false = refl
   view-activating true true = refl
+  view-activating true false = refl
+  view-activating false true = refl
+  view-activating false false = refl
 
   -- after a clean-up: the running table begins the next session
   view-cleaned : sound (viewState s) store ≡ true → length (s .session .beginning .clusters) ≡ clustersMost → (origin : CleanUpOrigin)

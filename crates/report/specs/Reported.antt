@@ -31,12 +31,13 @@ pub record CleanUpFits (s : State) (storeLength : ℕ) : Type 0 where
   pub entries : s .session .count ≤ entriesMost
 
 -- "Activating: bad gives Ready, PreActivationFailed. Good gives Ready, MissingDependencies, if some need of some cluster isn't met in
--- the staged table; else Verifying.": by good, and by whether the needs are met
+-- the staged table; else Verifying."; of bad with an unmet need A.6: "From now on the two together give MissingDependencies, still
+-- with Ready." By good, and by whether all needs are met
 abbrev pub activatingReported : State → Bool → Bool → Answered
 activatingReported s good met =
-    cond good
-    (cond met (answered Done (inPhase Verifying s)) (answered MissingDependencies (inPhase Ready s)))
-    (answered PreActivationFailed (inPhase Ready s))
+    cond met
+    (cond good (answered Done (inPhase Verifying s)) (answered PreActivationFailed (inPhase Ready s)))
+    (answered MissingDependencies (inPhase Ready s))
 
 -- "Verifying: good gives Activated, bad stays, VerificationFailed."
 abbrev pub verifyingReported : State → Bool → Answered

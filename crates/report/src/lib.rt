@@ -34,15 +34,15 @@ ghost use Rattle.state.specs.Outcome.{outcome, viewOutcome, SoundIfAccepted, ca
 ghost use Rattle.staging.specs.Staged.{stagedTable};
 ghost use Rattle.report.specs.Reported.{CleanUpFits, activatingReported, verifyingReported, rollbackPhase, rollingBackReported, cleanedUp, failedAnswer, failedPhase, cleaningUpReported, phaseReported};
 
-// In Activating, by the report and by whether all needs are met in the staged table.
+// In Activating. An unmet need of the staged table is answered before a bad report: a missing package is looked for first.
 fn answer_activating(s: State, good: bool, met: bool) -> Answered
     ensures { λ r. ⌜ r ≡ activatingReported s good met ⌝ }
 {
-    if !good {
-        return answer_with(Answer::PreActivationFailed, in_phase(s, Phase::Ready));
-    }
     if !met {
         return answer_with(Answer::MissingDependencies, in_phase(s, Phase::Ready));
+    }
+    if !good {
+        return answer_with(Answer::PreActivationFailed, in_phase(s, Phase::Ready));
     }
     answer_with(Answer::Done, in_phase(s, Phase::Verifying))
 }

@@ -55,11 +55,11 @@ moves =
     ∷ from sessionIn activated calls (finish gives done ∷ []) ends sessionIn (cleaningUp activatedCleansUp)
     ∷ from sessionIn rolledBack calls (finish gives done ∷ []) ends sessionIn (cleaningUp rolledBackCleansUp)
     -- "Activating: bad gives Ready, PreActivationFailed. Good gives Ready, MissingDependencies, if some need of some cluster isn't
-    -- met in the staged table; else Verifying."
-    ∷ from sessionIn activating calls (report false gives preActivationFailed ∷ []) ends sessionIn ready
-    ∷ from unmetIn activating calls (report false gives preActivationFailed ∷ []) ends unmetIn ready
-    ∷ from unmetIn activating calls (report true gives missingDependencies ∷ []) ends unmetIn ready
+    -- met in the staged table; else Verifying."; A.6: "From now on the two together give MissingDependencies, still with Ready."
     ∷ from sessionIn activating calls (report true gives done ∷ []) ends sessionIn verifying
+    ∷ from unmetIn activating calls (report true gives missingDependencies ∷ []) ends unmetIn ready
+    ∷ from sessionIn activating calls (report false gives preActivationFailed ∷ []) ends sessionIn ready
+    ∷ from unmetIn activating calls (report false gives missingDependencies ∷ []) ends unmetIn ready
     -- "Verifying: good gives Activated, bad stays, VerificationFailed."
     ∷ from sessionIn verifying calls (report true gives done ∷ []) ends sessionIn activated
     ∷ from sessionIn verifying calls (report false gives verificationFailed ∷ []) ends sessionIn verifying

@@ -2,13 +2,13 @@
 -- or with another running table. Assumes nothing.
 use Prim.Native.Nat.{ℕ}
 use mathlib.Core.Path.{refl}
-use mathlib.Core.Bool.{true}
+use mathlib.Core.Bool.{true, false}
 use mathlib.Core.List.{List, [], _∷_, _++_}
 use Rattle.text.specs.Version.{version}
 use Rattle.clusters.specs.Cluster.{Cluster, cluster, need}
 use Rattle.clusters.specs.Table.{Table}
 use Rattle.model.specs.State.{Phase, idle, ready, verifying, rollingBack, verifyingRollsBack}
-use Rattle.model.specs.Calls.{process, work, cancel, activate, rollback, report, done, working, cancelled, inconsistent, missingDependencies}
+use Rattle.model.specs.Calls.{process, work, cancel, activate, rollback, report, done, working, cancelled, inconsistent, preActivationFailed, missingDependencies}
 use Rattle.model.specs.Tables.{running}
 use Rattle.model.specs.Run.{Run}
 use Rattle.model.proofs.examples.Open.{computing}
@@ -34,6 +34,10 @@ loaded = loadedWith 1 200
 abbrev loadedDependent : Start
 loadedDependent = loadedFrom (fourNamesText "11,1.0.0.3,20,1.0.0.0" ++ line "20,1.0.4.0,,") 1 200
 
+-- cluster 30 needs 40, which is not there
+abbrev loadedUnmet : Start
+loadedUnmet = loadedFrom (fourNamesText "30,1.0.0.0,40,2.0.1.0") 1 200
+
 abbrev wrongSumText : List ℕ
 wrongSumText = packageText "remove,20,,0,1,," ""
 
@@ -43,6 +47,9 @@ dependentText = packageText "install,30,1.0.0.0,0,0,40,2.0.1.0" ""
 
 abbrev neededText : List ℕ
 neededText = packageText "install,40,2.0.1.0,0,0,," ""
+
+abbrev unrelatedText : List ℕ
+unrelatedText = packageText "install,50,1.0.0.0,0,0,," ""
 
 abbrev tooLowText : List ℕ
 tooLowText = packageText "install,40,2.0.0.9,0,0,," ""
@@ -85,6 +92,24 @@ needsOfAll =
     ends ending ready (cluster 11 (version 1 0 0 3) (need 20 (version 1 0 0 0) ∷ []) ∷ cluster20 ∷ [])
     ∷ []
 
+-- A.6, "the two together give MissingDependencies": looking at a bad report before the needs, or at those of the packages alone. A loaded
+-- cluster that no package touches needs what is taken out; or what was not there, until a package brings it
+abbrev twoFailures : List (Case Ending)
+twoFailures =
+    from loadedDependent
+    calls
+    (callsToTransfer 1 removeText ++ callsToProcess 1 0 ++ activate gives done ∷ report false gives missingDependencies ∷ [])
+    ends ending ready (cluster 11 (version 1 0 0 3) (need 20 (version 1 0 0 0) ∷ []) ∷ cluster20 ∷ [])
+    ∷ from loadedUnmet
+    calls
+    (callsToTransfer 1 unrelatedText
+    ++ callsToProcess 1 0
+    ++ activate gives done
+    ∷ report false gives missingDependencies
+    ∷ (callsToTransfer 2 neededText ++ callsToProcess 2 0 ++ activate gives done ∷ report false gives preActivationFailed ∷ callsToVerifying))
+    ends ending verifying (dependent ∷ cluster 40 (version 2 0 1 0) [] ∷ cluster 50 (version 1 0 0 0) [] ∷ [])
+    ∷ []
+
 -- "going to Idle when the second package of a session fails": by its sum, by a cancel; where the first fails there is no session left
 abbrev secondFails : List (Case Ending)
 secondFails =
@@ -105,6 +130,6 @@ fromVerifying =
     ends ending (rollingBack verifyingRollsBack) (cluster20 ∷ cluster 30 (version 1 0 0 0) (need 20 (version 1 0 4 0) ∷ []) ∷ [])
     ∷ []
 
-pub nearMisses : HoldLooking endingOf (cancelWins ++ needsOfAll ++ secondFails ++ fromVerifying)
+pub nearMisses : HoldLooking endingOf (cancelWins ++ needsOfAll ++ twoFailures ++ secondFails ++ fromVerifying)
 unfolding computing
 nearMisses = refl

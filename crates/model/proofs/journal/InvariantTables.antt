@@ -62,8 +62,8 @@ module _ (j : Journal) (session : Session) where
   moves-told rollsBackActivated i = stays _ _ _ i refl refl refl refl refl (i .table) refl (i .rollbackCompleted)
   moves-told finishesActivated i = stays _ _ _ i refl refl refl refl refl (i .table) refl (i .rollbackCompleted)
   moves-told finishesRolledBack i = stays _ _ _ i refl refl refl refl refl (i .table) refl (i .rollbackCompleted)
-  moves-told activationFails i = stays _ _ _ i refl refl refl refl refl (i .table) tt (i .rollbackCompleted)
-  moves-told (needsMissing e) i = stays _ _ _ i refl refl refl refl refl (i .table) tt (i .rollbackCompleted)
+  moves-told (activationFails e) i = stays _ _ _ i refl refl refl refl refl (i .table) tt (i .rollbackCompleted)
+  moves-told (needsMissing good e) i = stays _ _ _ i refl refl refl refl refl (i .table) tt (i .rollbackCompleted)
   moves-told (activationSucceeds e) i =
       by-direction j _ session toActivate (i .direction)
       (stays _ _ _ i refl refl refl refl refl (staged-is j _ session i) (i .direction) (i .rollbackCompleted))

@@ -126,8 +126,8 @@ module _ (t : Transfers) (session : Session) (store : Store) where
   activating-is : (k : Option Work) (good : Bool)
       → Accepted (state activating t session k) store (report good) (act (state activating t session k) store (report good))
   unfolding act reportOutcome
-  activating-is k false = moves activationFails
-  activating-is k true = bool-cases (needsMet (staged session)) (λ e. rw e (moves (activationSucceeds e))) λ e. rw e (moves (needsMissing e))
+  activating-is k true = bool-cases (needsMet (staged session)) (λ e. rw e (moves (activationSucceeds e))) λ e. rw e (moves (needsMissing true e))
+  activating-is k false = bool-cases (needsMet (staged session)) (λ e. rw e (moves (activationFails e))) λ e. rw e (moves (needsMissing false e))
 
   cleaning-up-is : (origin : CleanUpOrigin) (k : Option Work) (good : Bool)
       → Accepted (state (cleaningUp origin) t session k) store (report good) (act (state (cleaningUp origin) t session k) store (report good))

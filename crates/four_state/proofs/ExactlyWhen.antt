@@ -4,16 +4,20 @@
 use Prim.Native.Nat.{ℕ}
 use mathlib.Core.Path.{_≡_, refl, sym, ap, _∙_}
 use mathlib.Core.Bool.{Bool, true, false, true≢false}
-use mathlib.Core.Logic.{_↔_}
+use mathlib.Core.Logic.{_↔_, inr}
 use mathlib.Core.Option.{Option, none, some, Option·some-injective}
 use lib.Dec.{eqb}
 use lib.ListN.{getD}
 use Rattle.base.specs.Refusals.{firstRefusal}
 use Rattle.base.proofs.Tests.{clash}
-use Rattle.model.specs.State.{Work, State, Store}
-use Rattle.model.specs.Calls.{cancel, done, accepted}
+use Rattle.clusters.specs.Table.{needsMet}
+use Rattle.model.specs.State.{ready, activating, Session, Work, State, state, Store}
+use Rattle.model.specs.Calls.{cancel, report, done, preActivationFailed, accepted}
+use Rattle.model.specs.Tables.{staged}
+use Rattle.model.specs.Sound.{sound}
 use Rattle.model.specs.Layers.{EventOutcome}
 use Rattle.model.specs.Step.{refusals, act, unlessRefused, step}
+use Rattle.model.proofs.transitions.ReportInActivating.{report-in-activating}
 use Rattle.four_state.specs.declared.call.OldCall.{OldCall}
 use Rattle.four_state.specs.declared.call.OldCall.the-variants.{Activate, Cancel, Revert, Rollback}
 use Rattle.four_state.proofs.Decided.{begun, answered, some-none, DecidedAs, rowOf, by-table-status, by-table-activate, by-table-cancel, by-table-revert, by-table-rollback, decided}
@@ -110,6 +114,17 @@ module _ (s : State) (store : Store) where
       go : (answer : Option ℕ) → (byAnswer call answer .answer ≡ 0 → ⊥) → (byAnswer call answer .state ≡ s) × (byAnswer call answer .store ≡ store)
       go none other = absurd (other refl)
       go (some n) other = (refl, refl)
+
+  -- A.6 behind an old Activate answered 0: the needs of its session are met, so while the session is that one a bad report in Activating is
+  -- answered PreActivationFailed
+  pub bad-report-behind-activate : oldStep s store Activate .answer ≡ 0 → (later : State) (store′ : Store) → sound later store′ ≡ true
+      → later .phase ≡ activating → later .session ≡ s .session
+      → (let o = step later store′ (report false) in
+      (o .reply ≡ accepted preActivationFailed) × (o .state ≡ state ready (later .transfers) (later .session) (later .work)) × (o .store ≡ store′))
+  bad-report-behind-activate z later store′ h e same =
+      let given = report-in-activating later store′ h e false in
+      let reply = given .failed .1 (refl, ap (λ (x : Session). needsMet (staged x)) same ∙ answered-0-exactly-when Activate .0 z .1) in
+      (reply, given .failureGivesReady (inr reply), given .storeStays)
 
   -- ---- the table
 

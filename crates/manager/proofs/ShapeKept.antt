@@ -98,8 +98,9 @@ module _ (s : State) (store : Store) (shape : Shaped s) where
   report-shaped : (phase : Phase) (good : Bool) → Shaped (phaseReported s store phase good .answered .state)
   unfolding phaseReported
   report-shaped Activating good =
-      cond-cases (λ (given : Answered). Shaped (given .state)) (needsMet (viewTable (stagedTable (s .session)))) _ _
-      (λ met. cond-cases (λ (given : Answered). Shaped (given .state)) good _ _ (λ yes. same-shape) λ no. same-shape) λ missing. same-shape
+      let P : Answered → Type 0 = λ given. Shaped (given .state) in
+      cond-cases P (needsMet (viewTable (stagedTable (s .session)))) _ _ (λ met. cond-cases P good _ _ (λ well. same-shape) λ failed. same-shape)
+      λ missing. same-shape
   report-shaped Verifying true = same-shape
   report-shaped Verifying false = same-shape
   report-shaped (RollingBack origin) true = same-shape

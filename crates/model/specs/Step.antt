@@ -247,8 +247,7 @@ module _ (s : State) (store : Store) where
 
   -- Report in each manager's state. In those that do not allow it, it is refused before it counts
   unfoldable pub reportOutcome : Phase → Bool → Outcome
-  -- "Activating: bad gives Ready, PreActivationFailed. Good gives Ready, MissingDependencies, if some need of some cluster isn't met
-  -- in the staged table; else Verifying."
+  -- Activating, as above, by whether "some need of some cluster isn't met in the staged table"
   reportOutcome activating good =
       movesTo (activatingPhase good (needsMet (staged (s .session)))) (activatingAnswer good (needsMet (staged (s .session))))
   -- "Verifying: good gives Activated, bad stays, VerificationFailed."

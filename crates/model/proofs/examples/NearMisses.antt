@@ -1,5 +1,5 @@
--- "Near misses for a builder", each as lists of calls from a Load on that the near miss would answer otherwise or end in another state
--- or with another running table. Assumes nothing.
+-- "Near misses for a builder", and those of A.6, each as lists of calls from a Load on that the near miss would answer otherwise or end in
+-- another state or with another running table. Assumes nothing.
 use Prim.Native.Nat.{ℕ}
 use mathlib.Core.Path.{refl}
 use mathlib.Core.Bool.{true, false}
@@ -93,12 +93,18 @@ needsOfAll =
     ∷ []
 
 -- A.6, "the two together give MissingDependencies": looking at a bad report before the needs, or at those of the packages alone. A loaded
--- cluster that no package touches needs what is taken out; or what was not there, until a package brings it
+-- cluster that no package touches needs what the second package takes out; or what was not there, until the second brings it
 abbrev twoFailures : List (Case Ending)
 twoFailures =
     from loadedDependent
     calls
-    (callsToTransfer 1 removeText ++ callsToProcess 1 0 ++ activate gives done ∷ report false gives missingDependencies ∷ [])
+    (callsToTransfer 1 unrelatedText
+    ++ callsToTransfer 2 removeText
+    ++ callsToProcess 1 0
+    ++ callsToProcess 2 0
+    ++ activate gives done
+    ∷ report false gives missingDependencies
+    ∷ [])
     ends ending ready (cluster 11 (version 1 0 0 3) (need 20 (version 1 0 0 0) ∷ []) ∷ cluster20 ∷ [])
     ∷ from loadedUnmet
     calls

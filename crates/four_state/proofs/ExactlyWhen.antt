@@ -1,6 +1,6 @@
 -- "Each is accepted exactly when the twelve's call of its name is, Activate only with all needs met in the staged table, and then does what
--- that call does. .. A call answered by anything but 0 changes nothing.": on any state and store. By cases of the manager's state. Assumes
--- nothing.
+-- that call does. .. A call answered by anything but 0 changes nothing.": on any state and store. By cases of the manager's state. And what
+-- A.6 answers behind an Activate answered 0. Assumes nothing.
 use Prim.Native.Nat.{ℕ}
 use mathlib.Core.Path.{_≡_, refl, sym, ap, _∙_}
 use mathlib.Core.Bool.{Bool, true, false, true≢false}

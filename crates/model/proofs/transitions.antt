@@ -1,4 +1,4 @@
--- The accepted transitions as one type, and refused calls.
+-- The accepted transitions as one type, refused calls, and what a Report in Activating is answered.
 pub mod Passing
 pub mod MovesElsewhere
 pub mod AcceptingPackages

@@ -66,7 +66,7 @@ module _ (t : Transfers) (session : Session) (k : Option Work) (store : Store) w
         storeStays = refl;
       }
 
-  -- by what each way gives
+  -- the call gives what the way in which it is accepted gives
   by-way : sound before store ≡ true → {good : Bool} {o : Outcome} → Accepted before store (report good) o
       → ReportedInActivating before store good o → ReportedInActivating before store good (step before store (report good))
   by-way h {good} way given = subst (ReportedInActivating before store good) (sym (accepted-does h way)) given

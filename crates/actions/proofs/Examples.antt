@@ -99,7 +99,9 @@ pub actionLimits : AllHold actionWithin (
     install (plain 1) gives true
     ∷ install (plain 0) gives false
     ∷ update (plain 1) gives true
-    ∷ update (cluster 1 (version 0 0 0 65536) []) gives false
+    ∷ update (cluster 1 (version 0 0 65536 0) []) gives false
+    ∷ update (cluster 1 (version 0 0 0 4294967295) []) gives true
+    ∷ update (cluster 1 (version 0 0 0 4294967296) []) gives false
     ∷ remove 1 gives true
     ∷ remove 4294967295 gives true
     ∷ remove 0 gives false
@@ -174,7 +176,7 @@ refusedBy first others = record { first = first; all = first ∷ others; passing
 
 -- the cluster one version below the staged one
 abbrev older : ℕ → Cluster
-older part = cluster part (version 1 0 3 65535) []
+older part = cluster part (version 1 0 3 4294967295) []
 
 abbrev full : Table
 full = plainTo 64

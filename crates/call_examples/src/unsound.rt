@@ -66,7 +66,7 @@ fn wrong_cluster(c: Cluster, change: u32) -> Cluster {
         d.part = 0;
     }
     if change == 13 {
-        d.version.fourth = 65536;
+        d.version.third = 65536;
     }
     if change == 14 {
         d.need_count = 5;

@@ -1,5 +1,5 @@
--- How long a table within its limits is as a list of five names: at most 11,938 bytes. A part number has at most 10 digits, a version
--- at most 23 bytes and a mark one, so a cluster's line has at most 72 bytes, a need's line at most 38, and the names line has 34.
+-- How long a table within its limits is as a list of five names: at most 13,538 bytes. A part number has at most 10 digits, a version
+-- at most 28 bytes and a mark one, so a cluster's line has at most 82 bytes, a need's line at most 43, and the names line has 34.
 -- Assumes nothing.
 use Prim.Native.Nat.{ℕ, _+_, _*_, _≤_}
 use mathlib.Core.Path.{_≡_, refl}
@@ -41,7 +41,7 @@ unfolding partWithin
 part-most part h = ten-digits part (leb-true _ _ (and-right (leb 1 part) _ h))
 
 module _ (n : Need) (h : needWithin n ≡ true) where
-  need-most : length (digits (n .part)) + length (versionText (n .least)) ≤ 33
+  need-most : length (digits (n .part)) + length (versionText (n .least)) ≤ 38
   unfolding needWithin
   need-most =
       omega (
@@ -50,11 +50,11 @@ module _ (n : Need) (h : needWithin n ≡ true) where
         version-most (n .least) (and-right (partWithin (n .part)) _ h),
       )
 
-  need-line-most : length (needLineText fiveNames n) ≤ 38
+  need-line-most : length (needLineText fiveNames n) ≤ 43
   unfolding needLineText
   need-line-most = omega (arith, line-length [] [] (digits (n .part)) (versionText (n .least)) [], need-most)
 
-need-lines-most : (ns : List Need) → needsWithin ns ≡ true → length (needLinesText fiveNames ns) ≤ 38 * length ns
+need-lines-most : (ns : List Need) → needsWithin ns ≡ true → length (needLinesText fiveNames ns) ≤ 43 * length ns
 unfolding needsWithin needLinesText
 need-lines-most [] h = omega arith
 need-lines-most (n ∷ ns) h =
@@ -68,7 +68,7 @@ need-lines-most (n ∷ ns) h =
 module _ (part : ℕ) (version : Version) (stays : Bool) (h : partWithin part ≡ true) (w : versionWithin version ≡ true) where
   lines-most : (ns : List Need) → needsWithin ns ≡ true → length ns ≤ needsMost
       → length (lineIn fiveNames (digits part ∷ versionText version ∷ needCells ns) (markText stays))
-      + length (needLinesText fiveNames (drop 1 ns)) ≤ 186
+      + length (needLinesText fiveNames (drop 1 ns)) ≤ 211
   unfolding needsWithin needLinesText
   lines-most [] n o =
       omega (
@@ -89,7 +89,7 @@ module _ (part : ℕ) (version : Version) (stays : Bool) (h : partWithin part �
         need-lines-most ns (and-right (needWithin n) _ v),
       )
 
-pub cluster-lines-most : (c : Cluster) → clusterWithin c ≡ true → length (clusterLines fiveNames c) ≤ 186
+pub cluster-lines-most : (c : Cluster) → clusterWithin c ≡ true → length (clusterLines fiveNames c) ≤ 211
 unfolding clusterWithin clusterLines
 cluster-lines-most c within =
     let behind-part = and-right (partWithin (c .part)) _ within in
@@ -102,7 +102,7 @@ cluster-lines-most c within =
           (c .needs) (and-right (leb (length (c .needs)) needsMost) _ behind-version) (leb-true (length (c .needs)) needsMost (and-left _ _ behind-version)),
     )
 
-clusters-most : (last : ℕ) (t : Table) → risingAbove last t ≡ true → length (clustersText fiveNames t) ≤ 186 * length t
+clusters-most : (last : ℕ) (t : Table) → risingAbove last t ≡ true → length (clustersText fiveNames t) ≤ 211 * length t
 unfolding risingAbove clustersText
 clusters-most last [] h = omega arith
 clusters-most last (c ∷ t) h =
@@ -114,7 +114,7 @@ clusters-most last (c ∷ t) h =
       clusters-most (c .part) t (and-right (clusterWithin c) _ behind-over),
     )
 
--- 34 + 64 × 186
+-- 34 + 64 × 211
 pub list-most : (t : Table) → tableWithin t ≡ true → length (writeList t) ≤ writtenListMost
 unfolding tableWithin listText
 list-most t h =

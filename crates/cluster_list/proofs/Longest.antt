@@ -14,7 +14,7 @@ use Rattle.base.proofs.Tests.{and-both}
 use Rattle.base.specs.Quoted.{bytes}
 use Rattle.text.specs.declared.version.Version.{Version}
 use Rattle.text.specs.Digits.{digitsIn, digits}
-use Rattle.text.specs.Version.{versionPartMost, version, versionWithin, versionText}
+use Rattle.text.specs.Version.{versionPartMost, versionLastMost, version, versionWithin, versionText}
 use Rattle.text.proofs.DigitLaws.{ten-digits, digits-from}
 use Rattle.clusters.specs.declared.cluster.Need.{Need}
 use Rattle.clusters.specs.Cluster.{Cluster, cluster, need, partWithin, needWithin, needsWithin, needsMost, clusterWithin}
@@ -28,7 +28,7 @@ use Rattle.cluster_list.proofs.Lengths.{line-length, names-length}
 -- ---- the largest values
 
 abbrev largestVersion : Version
-largestVersion = version versionPartMost versionPartMost versionPartMost versionPartMost
+largestVersion = version versionPartMost versionPartMost versionPartMost versionLastMost
 
 abbrev largestNeed : Need
 largestNeed = need 4294967295 largestVersion
@@ -84,7 +84,7 @@ part-bytes : length (digits 4294967295) ≡ 10
 unfolding digits digitsIn
 part-bytes = refl
 
-version-bytes : length (versionText largestVersion) ≡ 23
+version-bytes : length (versionText largestVersion) ≡ 28
 unfolding versionText digits digitsIn
 version-bytes = refl
 
@@ -95,7 +95,7 @@ largestLine part y z = lineIn fiveNames (digits part ∷ versionText largestVers
 abbrev largestBelow : ℕ → List ℕ
 largestBelow n = needLinesText fiveNames (replicate n largestNeed)
 
-below-bytes : (n : ℕ) → length (largestBelow n) ≡ 38 * n
+below-bytes : (n : ℕ) → length (largestBelow n) ≡ 43 * n
 unfolding needLinesText needLineText
 below-bytes zero = refl
 below-bytes (suc n) =
@@ -109,7 +109,7 @@ below-bytes (suc n) =
     )
 
 line-bytes : (part n : ℕ) (y z : List ℕ) → length (digits part) ≡ 10
-    → length (largestLine part y z ++ largestBelow n) ≡ 39 + length y + length z + 38 * n
+    → length (largestLine part y z ++ largestBelow n) ≡ 44 + length y + length z + 43 * n
 line-bytes part n y z ten =
     omega (
       arith,
@@ -119,12 +119,12 @@ line-bytes part n y z ten =
       below-bytes n,
     )
 
-first-on-line : (part : ℕ) → length (digits part) ≡ 10 → length (linesWith fiveNames 1 (largest part)) ≡ 186
+first-on-line : (part : ℕ) → length (digits part) ≡ 10 → length (linesWith fiveNames 1 (largest part)) ≡ 211
 unfolding linesWith
 first-on-line part ten =
     line-bytes part 3 (digits 4294967295) (versionText largestVersion) ten ∙ omega (arith, part-bytes, version-bytes)
 
-all-below : (part : ℕ) → length (digits part) ≡ 10 → length (linesWith fiveNames 0 (largest part)) ≡ 191
+all-below : (part : ℕ) → length (digits part) ≡ 10 → length (linesWith fiveNames 0 (largest part)) ≡ 216
 unfolding linesWith
 all-below part ten = line-bytes part 4 [] [] ten
 
@@ -134,12 +134,12 @@ unfolding listText
 longest-written =
     rw (writer-table fiveNames longestTable)
     (length-append (namesLine fiveNames) (tableWith fiveNames 1 longestTable)
-    ∙ omega (arith, names-length, largest-length 1 186 first-on-line 64 4294967232 (omega arith) (omega arith)))
+    ∙ omega (arith, names-length, largest-length 1 211 first-on-line 64 4294967232 (omega arith) (omega arith)))
 
 -- no list that is read is longer (proofs/ReadLengths.antt), and this one is as long
 pub longest-read : (readList longestList ≡ some longestTable) × (length longestList ≡ readListMost)
 longest-read = (
   list-with-back fiveNames 0 (omega arith) longestTable longest-within,
   length-append (namesLine fiveNames) (tableWith fiveNames 0 longestTable)
-      ∙ omega (arith, names-length, largest-length 0 191 all-below 64 4294967232 (omega arith) (omega arith)),
+      ∙ omega (arith, names-length, largest-length 0 216 all-below 64 4294967232 (omega arith) (omega arith)),
 )

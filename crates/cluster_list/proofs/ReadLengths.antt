@@ -1,5 +1,5 @@
--- How long a text is that reads as a table: at most 12,258 bytes. In a list of five names a line that adds a cluster without a need has
--- at most 39 bytes, one that adds a need 38, and one that adds both 72; the names line has 34. In a list of four names each has less.
+-- How long a text is that reads as a table: at most 13,858 bytes. In a list of five names a line that adds a cluster without a need has
+-- at most 44 bytes, one that adds a need 43, and one that adds both 82; the names line has 34. In a list of four names each has less.
 -- Assumes nothing.
 use Prim.Native.Nat.{ℕ, zero, suc, _+_, _*_, _≤_}
 use mathlib.Core.Path.{_≡_, subst}
@@ -64,14 +64,14 @@ part-short w =
 part-read-short : (w : List ℕ) (part : ℕ) (next : Cursor) → partField w ≡ number.Value part next → length w ≤ 10
 part-read-short w part next e = subst (ShortPart w) e (part-short w)
 
-version-read-short : (w : List ℕ) (v : Version) (next : Cursor) → wholeVersion w ≡ version.Value v next → length w ≤ 23
+version-read-short : (w : List ℕ) (v : Version) (next : Cursor) → wholeVersion w ≡ version.Value v next → length w ≤ 28
 version-read-short w v next e =
     let written = whole-version-written w v next e in
     rw (written .0) (version-most v (written .1))
 
--- the fields needs and least: 33 bytes for the need that they say, or none
+-- the fields needs and least: 38 bytes for the need that they say, or none
 abbrev ShortNeed : List ℕ → List ℕ → NeedRead → Type 0
-ShortNeed w v (need.Value n next) = length w + length v ≤ 33 * length (needsFilled n)
+ShortNeed w v (need.Value n next) = length w + length v ≤ 38 * length (needsFilled n)
 ShortNeed w v need.IllFormed = Unit {0}
 
 need-short : (w v : List ℕ) → ShortNeed w v (needOf w v)
@@ -101,12 +101,12 @@ mark-short columns (At stays) l mark next e =
 
 -- ---- what a line adds
 
--- how many bytes the lines of a table can have: 39 for each cluster and 38 for each need
+-- how many bytes the lines of a table can have: 44 for each cluster and 43 for each need
 unfoldable room : Table → ℕ
 room [] = 0
-room (c ∷ t) = 39 + 38 * length (c .needs) + room t
+room (c ∷ t) = 44 + 43 * length (c .needs) + room t
 
-room-more : (t : Table) (c : Cluster) → room (t ++ c ∷ []) ≡ room t + 39 + 38 * length (c .needs)
+room-more : (t : Table) (c : Cluster) → room (t ++ c ∷ []) ≡ room t + 44 + 43 * length (c .needs)
 unfolding room
 room-more [] c = omega arith
 room-more (d ∷ t) c = omega (arith, room-more t c)
@@ -116,13 +116,13 @@ abbrev Adds : ℕ → Table → Option Table → Type 0
 Adds size t none = Unit {0}
 Adds size t (some u) = size + room t ≤ room u
 
-cluster-adds : (size : ℕ) (t : Table) (c : Cluster) → size ≤ 39 + 38 * length (c .needs) → Adds size t (clusterAdded t c)
+cluster-adds : (size : ℕ) (t : Table) (c : Cluster) → size ≤ 44 + 43 * length (c .needs) → Adds size t (clusterAdded t c)
 unfolding clusterAdded
 cluster-adds size t c h =
     cond-cases (Adds size t) (leb clustersMost (length t)) _ _ (λ _. tt) λ _.
     cond-cases (Adds size t) (leb (c .part) (lastPart t)) _ _ (λ _. tt) λ _. omega (arith, room-more t c)
 
-need-adds : (size : ℕ) (t : Table) (n : Need) → size ≤ 38 → Adds size t (needAdded t n)
+need-adds : (size : ℕ) (t : Table) (n : Need) → size ≤ 43 → Adds size t (needAdded t n)
 unfolding needAdded room
 need-adds size [] n h = tt
 need-adds size (c ∷ []) n h =
@@ -142,7 +142,7 @@ module _ (columns : ListColumns) (l : List ℕ) (t : Table) where
   size = rowLength four (columns .stays) l
 
   needs-fields : (read : OptionalNeed) (next : Cursor) → needFields four l ≡ need.Value read next
-      → length (cell (four .needs) l) + length (cell (four .least) l) ≤ 33 * length (needsFilled read)
+      → length (cell (four .needs) l) + length (cell (four .least) l) ≤ 38 * length (needsFilled read)
   needs-fields read next e =
       subst (ShortNeed (cell (four .needs) l) (cell (four .least) l)) e (need-short (cell (four .needs) l) (cell (four .least) l))
 
@@ -208,7 +208,7 @@ module _ (names : List ℕ) (columns : ListColumns) (end : Cursor) (placed : Lis
       further at next t u none h w = tt
       further at next t u (some v) h w = omega arith
 
-room-most : (last : ℕ) (t : Table) → risingAbove last t ≡ true → room t ≤ 191 * length t
+room-most : (last : ℕ) (t : Table) → risingAbove last t ≡ true → room t ≤ 216 * length t
 unfolding room
 room-most last [] h = omega arith
 room-most last (c ∷ t) h =
@@ -227,7 +227,7 @@ list-read s =
     later at none h w = tt
     later at (some u) h w = omega arith
 
--- 34 + (39 + 4 × 38) × 64
+-- 34 + (44 + 4 × 43) × 64
 pub read-most : (s : List ℕ) (t : Table) → readList s ≡ some t → length s ≤ readListMost
 unfolding room
 read-most s t e =

@@ -93,10 +93,10 @@ readList s =
     andThenListColumns none (listColumns s) λ columns next.
     valueLines (length s) columns s next []
 
--- how many bytes the longest list has that can be read: the names line of 34, and 64 clusters of a line of 39 and four of 38
+-- how many bytes the longest list has that can be read: the names line of 34, and 64 clusters of a line of 44 and four of 43
 -- (proofs/Longest.antt)
 abbrev pub readListMost : ℕ
-readListMost = 12258
+readListMost = 13858
 
 -- what each case of the reader's answer says: the table beside it, or ill-formed
 abbrev pub answered : ListAnswer → TableStruct → Option Table

@@ -123,7 +123,7 @@ module _ (c : ClusterStruct) (few : c .«need_count» ≤ needsMost) (long : len
 pub cluster-few : (c : ClusterStruct) → clusterWithin (viewCluster c) ≡ true → c .«need_count» ≤ needsMost
 cluster-few c h = leb-true (c .«need_count») needsMost (sym (needs-count c) ∙ cluster-few-needs (viewCluster c) h)
 
-pub needs-length-most : (c : Cluster) → clusterWithin c ≡ true → length (needLinesText fiveNames (drop 1 (c .needs))) ≤ 186
+pub needs-length-most : (c : Cluster) → clusterWithin c ≡ true → length (needLinesText fiveNames (drop 1 (c .needs))) ≤ 211
 needs-length-most c h = omega (arith, cluster-length-parts c, cluster-lines-most c h)
 
 -- ---- what is left of the clusters of a table

@@ -20,14 +20,14 @@ use Rattle.base.proofs.Tables.{_gives_, AllHold}
 
 -- ---- versions
 
--- "four parts of 0 to 65,535"
+-- "four parts of 0 to 65,535"; A.7: "The fourth version part may be 0 to 4,294,967,295."
 pub versionLimits : AllHold versionWithin (
     version 0 0 0 0 gives true
-    ∷ version 65535 65535 65535 65535 gives true
+    ∷ version 65535 65535 65535 4294967295 gives true
     ∷ version 65536 0 0 0 gives false
     ∷ version 0 65536 0 0 gives false
     ∷ version 0 0 65536 0 gives false
-    ∷ version 0 0 0 65536 gives false
+    ∷ version 0 0 0 4294967296 gives false
     ∷ [])
 unfolding versionWithin
 versionLimits = refl
@@ -43,6 +43,8 @@ pub comparisons : AllHold aboveEitherWay (
     ∷ (version 1 1 2 0, version 1 1 1 9) gives (true, false)
     ∷ (version 1 1 1 2, version 1 1 1 1) gives (true, false)
     ∷ (version 1 0 0 10, version 1 0 0 9) gives (true, false)
+    ∷ (version 1 0 0 4294967295, version 1 0 0 4294967294) gives (true, false)
+    ∷ (version 1 0 1 0, version 1 0 0 4294967295) gives (true, false)
     ∷ (version 1 2 3 4, version 1 2 3 4) gives (false, false)
     ∷ [])
 unfolding above
@@ -52,7 +54,7 @@ comparisons = refl
 pub leastVersions : AllHold (λ (p : Version × Version). atOrAbove (p .0) (p .1)) (
     (version 1 0 4 0, version 1 0 4 0) gives true
     ∷ (version 1 0 4 1, version 1 0 4 0) gives true
-    ∷ (version 1 0 3 65535, version 1 0 4 0) gives false
+    ∷ (version 1 0 3 4294967295, version 1 0 4 0) gives false
     ∷ (version 2 0 0 0, version 1 0 4 0) gives true
     ∷ (version 0 65535 0 0, version 1 0 4 0) gives false
     ∷ [])
@@ -70,10 +72,10 @@ abbrev lowest : Version
 lowest = version 0 0 0 0
 
 abbrev highest : Version
-highest = version 65535 65535 65535 65535
+highest = version 65535 65535 65535 4294967295
 
 abbrev tooHigh : Version
-tooHigh = version 0 0 0 65536
+tooHigh = version 0 0 65536 0
 
 -- a need within the limits, and needs whose part number and whose version is not
 abbrev fineNeed : Need
@@ -200,8 +202,8 @@ metAt p = meets (cluster 20 (p .0) [] ∷ []) (need 20 (p .1))
 -- the main versions below and above that of the least, and the last version of its own
 pub metInMainVersion : AllHold metAt (
     (version 1 0 4 0, version 1 0 4 0) gives true
-    ∷ (version 1 65535 65535 65535, version 1 0 4 0) gives true
-    ∷ (version 1 0 3 65535, version 1 0 4 0) gives false
+    ∷ (version 1 65535 65535 4294967295, version 1 0 4 0) gives true
+    ∷ (version 1 0 3 4294967295, version 1 0 4 0) gives false
     ∷ (version 2 0 0 0, version 1 0 4 0) gives false
     ∷ (version 0 65535 0 0, version 1 0 4 0) gives false
     ∷ (version 0 0 0 1, lowest) gives true
@@ -217,9 +219,9 @@ metTwice v = meetsAll (cluster 20 v [] ∷ []) (need 20 (version 1 0 4 0) ∷ ne
 -- none of these meets the same need in two main versions (`one-main-version` of Meaning says it of every version)
 pub neverMet : AllHold metTwice (
     version 1 0 4 0 gives false
-    ∷ version 1 65535 65535 65535 gives false
+    ∷ version 1 65535 65535 4294967295 gives false
     ∷ version 2 0 0 0 gives false
-    ∷ version 2 65535 65535 65535 gives false
+    ∷ version 2 65535 65535 4294967295 gives false
     ∷ version 3 0 0 0 gives false
     ∷ [])
 unfolding above atOrAbove fulfils find meets meetsAll

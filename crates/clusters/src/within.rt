@@ -14,12 +14,12 @@ ghost use Rattle.clusters.specs.Cluster.{partWithin, needWithin, needsWi
 ghost use Rattle.clusters.specs.Table.{risingAbove, tableWithin, clustersMost};
 ghost use Rattle.clusters.specs.View.{viewCluster, viewTable};
 
+// The largest fourth part is the largest of 32 bits.
 pub fn version_within(v: Version) -> bool
     ensures { λ r. ⌜ r ≡ versionWithin v ⌝ }
 {
     (v.first <= VERSION_PART_MOST)
-        & ((v.second <= VERSION_PART_MOST)
-            & ((v.third <= VERSION_PART_MOST) & (v.fourth <= VERSION_PART_MOST)))
+        & ((v.second <= VERSION_PART_MOST) & (v.third <= VERSION_PART_MOST))
 }
 
 // The largest part number is the largest of 32 bits.

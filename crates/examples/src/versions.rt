@@ -14,7 +14,7 @@ pub fn read(case: &[u8]) {
     };
     show::length(version_length(version));
     show::byte(b' ');
-    let mut buffer = [b'-'; 25];
+    let mut buffer = [b'-'; 30];
     put_version(&mut buffer, 1, version);
     show::bytes(&buffer);
     show::byte(b'\n');

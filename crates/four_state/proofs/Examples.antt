@@ -75,7 +75,7 @@ every-cell = refl
 
 -- A.5, "Report and the old Activate of A.1 use the new meaning": the cluster that 30 needs is updated in its main version, and to the next
 updates-of-20 : AllHold (λ (v : Version). answer (readyWith (cluster20 ∷ dependent30 ∷ []) (update (cluster 20 v []) ∷ []) []) Activate)
-    (version 1 65535 65535 65535 gives 0 ∷ version 2 0 0 0 gives 4 ∷ [])
+    (version 1 65535 65535 4294967295 gives 0 ∷ version 2 0 0 0 gives 4 ∷ [])
 unfolding computing oldStep oldAnswers furtherAnswers
 updates-of-20 = refl
 

@@ -16,7 +16,7 @@ use Rattle.text.specs.declared.version.Version.{Version}
 use Rattle.text.specs.declared.version.VersionRead.{VersionRead}
 use Rattle.text.specs.declared.version.VersionRead.the-variants as version
 use Rattle.text.specs.Number.{digitOf, numberGoesOn, numberBegins, numberAt}
-use Rattle.text.specs.Version.{versionPartMost, versionWithin, dottedAt, versionAt}
+use Rattle.text.specs.Version.{versionPartMost, versionLastMost, versionWithin, dottedAt, versionAt}
 use Rattle.text.proofs.ThenLaws.{then-cases}
 
 -- at most `most`, and ending from `p` to `e`
@@ -62,11 +62,11 @@ number-within s at most =
     within-text most at (length s) (numberAt s at most)
     (begins-within most at (at + (length s - at)) (drop at s) (simp length-drop (omega arith)))
 
-pub dotted-within : (s : List ℕ) (at : ℕ) → Within versionPartMost (at + 1) (length s) (dottedAt s at)
+pub dotted-within : (s : List ℕ) (at most : ℕ) → Within most (at + 1) (length s) (dottedAt s at most)
 unfolding dottedAt
-dotted-within s at =
-    cond-cases (Within versionPartMost (at + 1) (length s)) (eqb (getD s at 0) dot) _ _
-    (λ _. within-more versionPartMost (at + 1) (length s) (numberAt s (at + 1) versionPartMost) (number-within s (at + 1) versionPartMost))
+dotted-within s at most =
+    cond-cases (Within most (at + 1) (length s)) (eqb (getD s at 0) dot) _ _
+    (λ _. within-more most (at + 1) (length s) (numberAt s (at + 1) most) (number-within s (at + 1) most))
     (λ _. tt)
 
 module _ (s : List ℕ) (at most : ℕ) (x : Number) (n : ℕ) (next : Cursor) (e : x ≡ numberAt s at most) (v : x ≡ Value n next) where
@@ -82,11 +82,11 @@ module _ (s : List ℕ) (at most : ℕ) (x : Number) (n : ℕ) (next : Cursor) (
   pub number-inside : next .at ≤ length s
   number-inside = found-number .2
 
-module _ (s : List ℕ) (at : ℕ) (x : Number) (n : ℕ) (next : Cursor) (e : x ≡ dottedAt s at) (v : x ≡ Value n next) where
-  found-dotted : Within versionPartMost (at + 1) (length s) (Value n next)
-  found-dotted = rw (← e, v) at (dotted-within s at)
+module _ (s : List ℕ) (at most : ℕ) (x : Number) (n : ℕ) (next : Cursor) (e : x ≡ dottedAt s at most) (v : x ≡ Value n next) where
+  found-dotted : Within most (at + 1) (length s) (Value n next)
+  found-dotted = rw (← e, v) at (dotted-within s at most)
 
-  pub dotted-most : n ≤ versionPartMost
+  pub dotted-most : n ≤ most
   dotted-most = found-dotted .0
 
   pub dotted-after : at < next .at
@@ -97,9 +97,9 @@ module _ (s : List ℕ) (at : ℕ) (x : Number) (n : ℕ) (next : Cursor) (e : x
 
 -- ---- a version at a position
 
--- the limit of a version's parts, as a test and as facts
+-- the limits of a version's parts, as a test and as facts
 module _ (v : Version) where
-  pub parts-within : v .first ≤ versionPartMost → v .second ≤ versionPartMost → v .third ≤ versionPartMost → v .fourth ≤ versionPartMost → versionWithin v ≡ true
+  pub parts-within : v .first ≤ versionPartMost → v .second ≤ versionPartMost → v .third ≤ versionPartMost → v .fourth ≤ versionLastMost → versionWithin v ≡ true
   unfolding versionWithin
   parts-within a b c d =
       and-both _ _ (le-leb _ _ a) (and-both _ _ (le-leb _ _ b) (and-both _ _ (le-leb _ _ c) (le-leb _ _ d)))
@@ -117,7 +117,7 @@ module _ (v : Version) where
     unfolding versionWithin
     third-within = leb-true _ _ (and-left _ _ (and-right (leb (v .second) versionPartMost) _ (and-right (leb (v .first) versionPartMost) _ w)))
 
-    pub fourth-within : v .fourth ≤ versionPartMost
+    pub fourth-within : v .fourth ≤ versionLastMost
     unfolding versionWithin
     fourth-within =
         leb-true _ _
@@ -131,23 +131,23 @@ pub version-within : (s : List ℕ) (at : ℕ) → WithinVersion (at + 1) (lengt
 unfolding versionAt
 version-within s at =
     then-cases (WithinVersion (at + 1) (length s)) version.IllFormed (numberAt s at versionPartMost) _ tt λ a p ea.
-    then-cases (WithinVersion (at + 1) (length s)) version.IllFormed (dottedAt s (p .at)) _ tt λ b q eb.
-    then-cases (WithinVersion (at + 1) (length s)) version.IllFormed (dottedAt s (q .at)) _ tt λ c t ec.
-    then-cases (WithinVersion (at + 1) (length s)) version.IllFormed (dottedAt s (t .at)) _ tt λ d next ed. (
+    then-cases (WithinVersion (at + 1) (length s)) version.IllFormed (dottedAt s (p .at) versionPartMost) _ tt λ b q eb.
+    then-cases (WithinVersion (at + 1) (length s)) version.IllFormed (dottedAt s (q .at) versionPartMost) _ tt λ c t ec.
+    then-cases (WithinVersion (at + 1) (length s)) version.IllFormed (dottedAt s (t .at) versionLastMost) _ tt λ d next ed. (
       parts-within
           (record { first = a; second = b; third = c; fourth = d })
           (number-most s at versionPartMost _ a p refl ea)
-          (dotted-most s (p .at) _ b q refl eb)
-          (dotted-most s (q .at) _ c t refl ec)
-          (dotted-most s (t .at) _ d next refl ed),
+          (dotted-most s (p .at) versionPartMost _ b q refl eb)
+          (dotted-most s (q .at) versionPartMost _ c t refl ec)
+          (dotted-most s (t .at) versionLastMost _ d next refl ed),
       omega (
         arith,
         number-after s at versionPartMost _ a p refl ea,
-        dotted-after s (p .at) _ b q refl eb,
-        dotted-after s (q .at) _ c t refl ec,
-        dotted-after s (t .at) _ d next refl ed,
+        dotted-after s (p .at) versionPartMost _ b q refl eb,
+        dotted-after s (q .at) versionPartMost _ c t refl ec,
+        dotted-after s (t .at) versionLastMost _ d next refl ed,
       ),
-      dotted-inside s (t .at) _ d next refl ed,
+      dotted-inside s (t .at) versionLastMost _ d next refl ed,
     )
 
 module _ (s : List ℕ) (at : ℕ) (x : VersionRead) (v : Version) (next : Cursor) (e : x ≡ versionAt s at) (f : x ≡ version.Value v next) where

@@ -14,7 +14,7 @@ use Rattle.text.specs.Number.{digitOf}
 use Rattle.text.specs.Version.{versionWithin, versionText}
 use Rattle.text.specs.Digits.{digits}
 use Rattle.text.specs.Meaning.{eachByte, digitOrDot}
-use Rattle.text.proofs.DigitLaws.{digits-small, digits-large, digits-induction, five-digits, some-digit}
+use Rattle.text.proofs.DigitLaws.{digits-small, digits-large, digits-induction, five-digits, ten-digits, some-digit}
 use Rattle.text.proofs.Bounds.{first-within, second-within, third-within, fourth-within}
 use Rattle.text.proofs.RoundTrip.{digit-read}
 
@@ -79,7 +79,7 @@ version-bytes v =
 
 -- ---- how many bytes a version has
 
-pub version-most : (v : Version) → versionWithin v ≡ true → length (versionText v) ≤ 23
+pub version-most : (v : Version) → versionWithin v ≡ true → length (versionText v) ≤ 28
 unfolding versionText
 version-most v w =
     let a = first-within v w in
@@ -92,7 +92,7 @@ version-most v w =
       five-digits (v .first) (omega arith),
       five-digits (v .second) (omega arith),
       five-digits (v .third) (omega arith),
-      five-digits (v .fourth) (omega arith),
+      ten-digits (v .fourth) d,
     ))
 
 -- no version has an empty text

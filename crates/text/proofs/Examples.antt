@@ -77,15 +77,21 @@ written-computed = refl
 abbrev versionOf : String → Option Version
 versionOf text = andThenVersion none (wholeVersion (bytes text)) λ v next. some v
 
--- "A version is four parts of 0 to 65,535 joined by dots"
+-- "A version is four parts of 0 to 65,535 joined by dots"; A.7: "The fourth version part may be 0 to 4,294,967,295."
 versions-computed : AllHold versionOf
     ("1.2.3.4" gives some (version 1 2 3 4)
     ∷ "0.0.0.0" gives some (version 0 0 0 0)
-    ∷ "65535.65535.65535.65535" gives some (version 65535 65535 65535 65535)
+    ∷ "65535.65535.65535.4294967295" gives some (version 65535 65535 65535 4294967295)
+    ∷ "65535.0.0.0" gives some (version 65535 0 0 0)
     ∷ "65536.0.0.0" gives none
     ∷ "0.65536.0.0" gives none
     ∷ "0.0.65536.0" gives none
-    ∷ "0.0.0.65536" gives none
+    ∷ "0.0.0.65535" gives some (version 0 0 0 65535)
+    ∷ "0.0.0.65536" gives some (version 0 0 0 65536)
+    ∷ "0.0.0.4294967295" gives some (version 0 0 0 4294967295)
+    ∷ "0.0.0.4294967296" gives none
+    ∷ "0.0.0.42949672950" gives none
+    ∷ "0.0.0.18446744073709551617" gives none
     ∷ "1.2.3" gives none
     ∷ "1.2.3.4.5" gives none
     ∷ ".2.3.4" gives none
@@ -94,6 +100,7 @@ versions-computed : AllHold versionOf
     ∷ "1.2.3." gives none
     ∷ "01.0.0.0" gives none
     ∷ "0.0.0.00" gives none
+    ∷ "0.0.0.01" gives none
     ∷ "1,2.3.4" gives none
     ∷ "1.2.3,4" gives none
     ∷ "1.2.3.4." gives none
@@ -112,16 +119,17 @@ unfolding computing
 version-positions-computed = refl
 
 version-limits-computed : AllHold versionWithin
-    (version 65535 65535 65535 65535 gives true
+    (version 65535 65535 65535 4294967295 gives true
     ∷ version 65536 0 0 0 gives false
     ∷ version 0 65536 0 0 gives false
     ∷ version 0 0 65536 0 gives false
-    ∷ version 0 0 0 65536 gives false
+    ∷ version 0 0 0 4294967296 gives false
     ∷ [])
 unfolding computing
 version-limits-computed = refl
 
-version-text-computed : AllHold versionText (version 1 0 20 65535 gives bytes "1.0.20.65535" ∷ [])
+version-text-computed : AllHold versionText
+    (version 1 0 20 65535 gives bytes "1.0.20.65535" ∷ version 0 1 0 1547190872 gives bytes "0.1.0.1547190872" ∷ [])
 unfolding computing
 version-text-computed = refl
 

@@ -20,7 +20,7 @@ use Rattle.text.specs.declared.version.Version.{Version}
 use Rattle.text.specs.declared.version.VersionRead.{VersionRead}
 use Rattle.text.specs.declared.version.VersionRead.the-variants as version
 use Rattle.text.specs.Number.{digitOf, numberGoesOn, numberBegins, numberAt, wholeNumber}
-use Rattle.text.specs.Version.{versionPartMost, versionWithin, dottedAt, versionAt, wholeVersion, versionText}
+use Rattle.text.specs.Version.{versionPartMost, versionLastMost, versionWithin, dottedAt, versionAt, wholeVersion, versionText}
 use Rattle.text.specs.Digits.{digits}
 use Rattle.text.specs.Meaning.{noDigitFirst, Stands}
 use Rattle.text.proofs.DigitLaws.{digits-small, digits-large}
@@ -142,24 +142,24 @@ module _ (s : List ℕ) (at most n : ℕ) (next : Cursor) (e : numberAt s at mos
   pub number-ends : noDigitFirst (drop (next .at) s) ≡ true
   number-ends = rw left (there .ends)
 
-module _ (s : List ℕ) (at n : ℕ) (next : Cursor) (e : dottedAt s at ≡ Value n next) where
-  dot-there : (getD s at 0 ≡ dot) × (numberAt s (at + 1) versionPartMost ≡ Value n next)
+module _ (s : List ℕ) (at most n : ℕ) (next : Cursor) (e : dottedAt s at most ≡ Value n next) where
+  dot-there : (getD s at 0 ≡ dot) × (numberAt s (at + 1) most ≡ Value n next)
   unfolding dottedAt
   dot-there = go (eqb (getD s at 0) dot) refl e
     where
-      go : (t : Bool) → eqb (getD s at 0) dot ≡ t → cond t (numberAt s (at + 1) versionPartMost) IllFormed ≡ Value n next
-          → (getD s at 0 ≡ dot) × (numberAt s (at + 1) versionPartMost ≡ Value n next)
+      go : (t : Bool) → eqb (getD s at 0) dot ≡ t → cond t (numberAt s (at + 1) most) IllFormed ≡ Value n next
+          → (getD s at 0 ≡ dot) × (numberAt s (at + 1) most ≡ Value n next)
       go true t f = (eqb-true _ _ t, f)
       go false t f = let z : _≡_ {A = ℕ} 0 1 = cc in absurd (omega arith)
 
   pub dotted-stands : Stands s at (dot ∷ digits n) (next .at)
   dotted-stands =
-      let number : Stands s (at + 1) (digits n) (next .at) = number-stands s (at + 1) versionPartMost n next (dot-there .1) in
-      let inside : at < length s = omega (arith, number-inside s (at + 1) versionPartMost _ n next refl (dot-there .1), number .behind) in
+      let number : Stands s (at + 1) (digits n) (next .at) = number-stands s (at + 1) most n next (dot-there .1) in
+      let inside : at < length s = omega (arith, number-inside s (at + 1) most _ n next refl (dot-there .1), number .behind) in
       record { behind = omega (arith, number .behind); bytes = drop-cons s at 0 inside ∙ rw (dot-there .0, ← add-one at, number .bytes) }
 
   pub dotted-ends : noDigitFirst (drop (next .at) s) ≡ true
-  dotted-ends = number-ends s (at + 1) versionPartMost n next (dot-there .1)
+  dotted-ends = number-ends s (at + 1) most n next (dot-there .1)
 
 record StandsVersion (s : List ℕ) (at : ℕ) (v : Version) (next : Cursor) : Type 0 where
   stands : Stands s at (versionText v) (next .at)
@@ -173,15 +173,15 @@ version-found : (s : List ℕ) (at : ℕ) → FoundVersion s at (versionAt s at)
 unfolding versionAt versionText
 version-found s at =
     then-cases (FoundVersion s at) version.IllFormed (numberAt s at versionPartMost) _ tt λ a p ea.
-    then-cases (FoundVersion s at) version.IllFormed (dottedAt s (p .at)) _ tt λ b q eb.
-    then-cases (FoundVersion s at) version.IllFormed (dottedAt s (q .at)) _ tt λ c t ec.
-    then-cases (FoundVersion s at) version.IllFormed (dottedAt s (t .at)) _ tt λ d next ed.
+    then-cases (FoundVersion s at) version.IllFormed (dottedAt s (p .at) versionPartMost) _ tt λ b q eb.
+    then-cases (FoundVersion s at) version.IllFormed (dottedAt s (q .at) versionPartMost) _ tt λ c t ec.
+    then-cases (FoundVersion s at) version.IllFormed (dottedAt s (t .at) versionLastMost) _ tt λ d next ed.
     record {
       stands =
           stands-then s at _ _ (p .at) (next .at) (number-stands s at versionPartMost a p ea)
-          (stands-then s (p .at) _ _ (q .at) (next .at) (dotted-stands s (p .at) b q eb)
-          (stands-then s (q .at) _ _ (t .at) (next .at) (dotted-stands s (q .at) c t ec) (dotted-stands s (t .at) d next ed)));
-      ends = dotted-ends s (t .at) d next ed;
+          (stands-then s (p .at) _ _ (q .at) (next .at) (dotted-stands s (p .at) versionPartMost b q eb)
+          (stands-then s (q .at) _ _ (t .at) (next .at) (dotted-stands s (q .at) versionPartMost c t ec) (dotted-stands s (t .at) versionLastMost d next ed)));
+      ends = dotted-ends s (t .at) versionLastMost d next ed;
     }
 
 module _ (s : List ℕ) (at : ℕ) (v : Version) (next : Cursor) (e : versionAt s at ≡ version.Value v next) where

@@ -13,7 +13,7 @@ use Rattle.text.specs.declared.number.Number.the-variants.{Value}
 use Rattle.text.specs.declared.version.Version.{Version}
 use Rattle.text.specs.declared.version.VersionRead.the-variants as version
 use Rattle.text.specs.Number.{cursor, digitOf, numberGoesOn, numberBegins, numberAt, wholeNumber}
-use Rattle.text.specs.Version.{versionPartMost, versionWithin, dottedAt, versionAt, wholeVersion, versionText}
+use Rattle.text.specs.Version.{versionPartMost, versionLastMost, versionWithin, dottedAt, versionAt, wholeVersion, versionText}
 use Rattle.text.specs.Digits.{digits}
 use Rattle.text.specs.Meaning.{noDigitFirst}
 use Rattle.text.proofs.DigitLaws.{digits-small, digits-large, digits-induction}
@@ -95,11 +95,12 @@ whole-number-back most n m =
 -- ---- versions
 
 module _ (s : List ℕ) (at : ℕ) (t : List ℕ) (h : noDigitFirst t ≡ true) where
-  pub dotted-back : (n : ℕ) → n ≤ versionPartMost → drop at s ≡ (dot ∷ digits n) ++ t → dottedAt s at ≡ Value n (cursor (at + length (dot ∷ digits n)))
+  pub dotted-back : (most n : ℕ) → n ≤ most → drop at s ≡ (dot ∷ digits n) ++ t
+      → dottedAt s at most ≡ Value n (cursor (at + length (dot ∷ digits n)))
   unfolding dottedAt
-  dotted-back n m e =
+  dotted-back most n m e =
       rw (byte-there s at dot _ e)
-      (number-back s (at + 1) t h versionPartMost n m (drop-past s at (dot ∷ []) _ e) ∙ ap (λ (p : ℕ). Value n (cursor p)) (omega arith))
+      (number-back s (at + 1) t h most n m (drop-past s at (dot ∷ []) _ e) ∙ ap (λ (p : ℕ). Value n (cursor p)) (omega arith))
 
 module _ (s : List ℕ) (at : ℕ) (t : List ℕ) (h : noDigitFirst t ≡ true) where
   pub version-back : (v : Version) → versionWithin v ≡ true → drop at s ≡ versionText v ++ t
@@ -115,9 +116,9 @@ module _ (s : List ℕ) (at : ℕ) (t : List ℕ) (h : noDigitFirst t ≡ true) 
       let e₄ = drop-past s p₃ (dot ∷ digits (v .third)) _ e₃ in
       rw (
         number-back s at _ (ends-at-dot _) versionPartMost (v .first) (first-within v w) e₁,
-        dotted-back s p₂ _ (ends-at-dot _) (v .second) (second-within v w) e₂,
-        dotted-back s p₃ _ (ends-at-dot _) (v .third) (third-within v w) e₃,
-        dotted-back s p₄ t h (v .fourth) (fourth-within v w) e₄,
+        dotted-back s p₂ _ (ends-at-dot _) versionPartMost (v .second) (second-within v w) e₂,
+        dotted-back s p₃ _ (ends-at-dot _) versionPartMost (v .third) (third-within v w) e₃,
+        dotted-back s p₄ t h versionLastMost (v .fourth) (fourth-within v w) e₄,
       )
       (ap (λ (p : ℕ). version.Value v (cursor p)) (simp (length-append, add-assoc)))
 

@@ -1,4 +1,4 @@
--- "A version is four parts of 0 to 65,535 joined by dots".
+-- "A version is four parts of 0 to 65,535 joined by dots"; A.7: "The fourth version part may be 0 to 4,294,967,295."
 use Prim.Native.Nat.{ℕ, _+_}
 use mathlib.Core.Bool.{Bool, cond, _&&_}
 use mathlib.Core.List.{List, _∷_, _++_}
@@ -18,25 +18,29 @@ use Rattle.text.specs.Then.{andThen, andThenVersion}
 abbrev pub version : ℕ → ℕ → ℕ → ℕ → Version
 version first second third fourth = record { first = first; second = second; third = third; fourth = fourth }
 
--- "65,535": the one place in the definitions that has this limit
+-- "65,535", of the first three parts: the one place in the definitions that has this limit
 abbrev pub versionPartMost : ℕ
 versionPartMost = 65535
 
--- "four parts of 0 to 65,535"
-unfoldable pub versionWithin : Version → Bool
-versionWithin v = leb (v .first) versionPartMost && (leb (v .second) versionPartMost && (leb (v .third) versionPartMost && leb (v .fourth) versionPartMost))
+-- A.7: "4,294,967,295", of the fourth part: the one place in the definitions that has this limit
+abbrev pub versionLastMost : ℕ
+versionLastMost = 4294967295
 
--- a dot and the part behind it. Past the end `getD` gives 0, which is no dot
-unfoldable pub dottedAt : List ℕ → ℕ → Number
-dottedAt s at = cond (eqb (getD s at 0) dot) (numberAt s (at + 1) versionPartMost) number.IllFormed
+-- "four parts of 0 to 65,535"; A.7: the fourth "may be 0 to 4,294,967,295"
+unfoldable pub versionWithin : Version → Bool
+versionWithin v = leb (v .first) versionPartMost && (leb (v .second) versionPartMost && (leb (v .third) versionPartMost && leb (v .fourth) versionLastMost))
+
+-- a dot and the part behind it, at most as large as `most`. Past the end `getD` gives 0, which is no dot
+unfoldable pub dottedAt : List ℕ → ℕ → ℕ → Number
+dottedAt s at most = cond (eqb (getD s at 0) dot) (numberAt s (at + 1) most) number.IllFormed
 
 -- the version at a position of a text
 unfoldable pub versionAt : List ℕ → ℕ → VersionRead
 versionAt s at =
     andThen IllFormed (numberAt s at versionPartMost) λ first behind-first.
-    andThen IllFormed (dottedAt s (behind-first .at)) λ second behind-second.
-    andThen IllFormed (dottedAt s (behind-second .at)) λ third behind-third.
-    andThen IllFormed (dottedAt s (behind-third .at)) λ fourth next.
+    andThen IllFormed (dottedAt s (behind-first .at) versionPartMost) λ second behind-second.
+    andThen IllFormed (dottedAt s (behind-second .at) versionPartMost) λ third behind-third.
+    andThen IllFormed (dottedAt s (behind-third .at) versionLastMost) λ fourth next.
     Value (version first second third fourth) next
 
 -- a text that is one version and nothing else

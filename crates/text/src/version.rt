@@ -21,8 +21,11 @@ pub const NO_VERSION: Version = Version {
     fourth: 0,
 };
 
-// The largest value of a part: the one place in the code that has this limit.
+// The largest value of the first three parts: the one place in the code that has this limit.
 pub const VERSION_PART_MOST: u32 = 65535;
+
+// The largest value of the fourth part, the largest of 32 bits: the one place in the code that has this limit.
+pub const VERSION_LAST_MOST: u32 = 4294967295;
 
 // What reading a version finds: the version and the cursor behind it.
 pub enum VersionRead {
@@ -30,16 +33,16 @@ pub enum VersionRead {
     IllFormed,
 }
 
-// A dot and the part of a version behind it.
-fn dotted_at(s: &[u8], cursor: Cursor) -> Number
-    ensures { λ r. ⌜ r ≡ dottedAt (now (s .entry)) (cursor .at) ⌝ }
+// A dot and the part of a version behind it, at most as large as most.
+fn dotted_at(s: &[u8], cursor: Cursor, most: u32) -> Number
+    ensures { λ r. ⌜ r ≡ dottedAt (now (s .entry)) (cursor .at) most ⌝ }
 {
     let at = cursor.at;
     if s.len() <= at {
         return Number::IllFormed;
     }
     if s[at] == b'.' {
-        number_at(s, Cursor { at: at + 1 }, VERSION_PART_MOST)
+        number_at(s, Cursor { at: at + 1 }, most)
     } else {
         Number::IllFormed
     }
@@ -52,13 +55,13 @@ pub fn version_at(s: &[u8], cursor: Cursor) -> VersionRead
     let Number::Value(first, behind_first) = number_at(s, cursor, VERSION_PART_MOST) else {
         return VersionRead::IllFormed;
     };
-    let Number::Value(second, behind_second) = dotted_at(s, behind_first) else {
+    let Number::Value(second, behind_second) = dotted_at(s, behind_first, VERSION_PART_MOST) else {
         return VersionRead::IllFormed;
     };
-    let Number::Value(third, behind_third) = dotted_at(s, behind_second) else {
+    let Number::Value(third, behind_third) = dotted_at(s, behind_second, VERSION_PART_MOST) else {
         return VersionRead::IllFormed;
     };
-    let Number::Value(fourth, next) = dotted_at(s, behind_third) else {
+    let Number::Value(fourth, next) = dotted_at(s, behind_third, VERSION_LAST_MOST) else {
         return VersionRead::IllFormed;
     };
     VersionRead::Value(

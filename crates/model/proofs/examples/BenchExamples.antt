@@ -47,8 +47,10 @@ pub record BenchExamples : Type 0 where
   pub m3 : above (version 1 0 0 10) (version 1 0 0 9) ≡ true
   -- "M4 01.0.0.0 isn't a version."
   pub m4 : wholeVersion (bytes "01.0.0.0") ≡ IllFormed
-  -- "M5 65536.0.0.0 isn't, 65535.0.0.0 is."
-  pub m5 : (wholeVersion (bytes "65536.0.0.0") ≡ IllFormed) × (wholeVersion (bytes "65535.0.0.0") ≡ Value (version 65535 0 0 0) (cursor 11))
+  -- A.7: "M5 reads: 65536.0.0.0 isn't a version, 0.0.0.4294967295 is and 0.0.0.4294967296 isn't."
+  pub m5 : (wholeVersion (bytes "65536.0.0.0") ≡ IllFormed)
+      × (wholeVersion (bytes "0.0.0.4294967295") ≡ Value (version 0 0 0 4294967295) (cursor 16))
+      × (wholeVersion (bytes "0.0.0.4294967296") ≡ IllFormed)
   -- "M6 a store of 100 with 91 declared takes 9, refuses 10 by 17."
   pub m6 : Hold
       (from loaded calls (transferStart 91 gives givenId 1 ∷ transferStart 9 gives givenId 2 ∷ [])
@@ -81,7 +83,7 @@ benchExamples =
       m2 = refl;
       m3 = refl;
       m4 = refl;
-      m5 = (refl, refl);
+      m5 = (refl, refl, refl);
       m6 = refl;
       m7 = refl;
       m8 = refl;

@@ -107,6 +107,10 @@ ofExit =
     ∷ packageText "install,30,1.0.0.0,16777217,0,," ""
     ∷ withFurther 3
     ∷ withFurther 4
+    ∷ packageText "install,30,0.0.0.4294967295,0,0,20,0.0.0.4294967295" ""
+    ∷ packageText "install,30,0.0.0.4294967296,0,0,20,0.0.0.4294967295" ""
+    ∷ packageText "install,30,0.0.0.4294967295,0,0,20,0.0.0.4294967296" ""
+    ∷ packageText "install,30,0.0.65536.0,0,0,," ""
     ∷ [])
     calls
     ( -- "sum 0 to 65,535"
@@ -118,6 +122,11 @@ ofExit =
     -- "1 to 4 value lines"
     ∷ transferExit 5 gives done
     ∷ transferExit 6 isRefusedBy 9
+    -- A.7: "The fourth version part may be 0 to 4,294,967,295.", of the cluster and of a need's least version; the others stay
+    ∷ transferExit 7 gives done
+    ∷ transferExit 8 isRefusedBy 9
+    ∷ transferExit 9 isRefusedBy 9
+    ∷ transferExit 10 isRefusedBy 9
     ∷ [])
     ∷ []
 
@@ -147,6 +156,17 @@ ofProcess =
     ∷ process 5 isRefusedBy 14
     ∷ process 6 gives done
     ∷ [])
+    -- the same with builds that are "stamped with a second count" (A.7), and above the largest of them
+    ∷ from idleFrom
+    (cluster 20 (version 0 1 0 1547190872) [] ∷ cluster 30 (version 1 0 0 4294967295) [] ∷ [])
+    transferred
+    (packageText "update,20,0.1.0.1547190872,0,0,," ""
+    ∷ packageText "update,30,1.0.0.4294967295,0,0,," ""
+    ∷ packageText "update,20,0.1.0.1547190873,0,0,," ""
+    ∷ packageText "update,30,1.0.1.0,0,0,," ""
+    ∷ [])
+    calls
+    (process 1 isRefusedBy 14 ∷ process 2 isRefusedBy 14 ∷ (callsToProcess 3 0 ++ process 4 gives done ∷ []))
     -- an update to the next main version is above too. A need of the one before is then missed by Report (A.5), until it is updated
     ∷ from idleFrom
     (cluster 11 (version 1 0 0 3) (need 20 (version 2 0 0 0) ∷ []) ∷ cluster 20 (version 2 3 4 5) [] ∷ [])

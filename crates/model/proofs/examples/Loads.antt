@@ -6,6 +6,8 @@ use mathlib.Core.List.{List, [], _∷_, _++_, map}
 use mathlib.Core.Option.{none}
 use lib.ListN.{length, replicate}
 use Rattle.text.specs.Digits.{digits}
+use Rattle.text.specs.Version.{version}
+use Rattle.clusters.specs.Cluster.{cluster, need}
 use Rattle.clusters.specs.Table.{Table}
 use Rattle.model.specs.State.{State, Store, idle, verifying, transferring, state}
 use Rattle.model.specs.Calls.{done, refused, accepted}
@@ -71,6 +73,12 @@ cases =
     ∷ loadCase (writtenText "20,1.0.4.0,,,1") 1 1 (loads (marked20 ∷ []) 1 1)
     ∷ loadCase (writtenText "20,1.0.4.0,,,") 1 1 (badLoad 1)
     ∷ loadCase (writtenText "20,1.0.4.0,,,2") 1 1 (badLoad 1)
+    -- A.7: "The fourth version part may be 0 to 4,294,967,295.", of a cluster and of a need's least version; the others stay
+    ∷ loadCase (fourNamesText "20,0.0.0.4294967295,20,0.0.0.4294967295") 1 1
+    (loads (cluster 20 (version 0 0 0 4294967295) (need 20 (version 0 0 0 4294967295) ∷ []) ∷ []) 1 1)
+    ∷ loadCase (fourNamesText "20,0.0.0.4294967296,,") 1 1 (badLoad 1)
+    ∷ loadCase (fourNamesText "20,0.0.0.0,20,0.0.0.4294967296") 1 1 (badLoad 1)
+    ∷ loadCase (fourNamesText "20,0.0.65536.0,,") 1 1 (badLoad 1)
     -- "at most 64 clusters"
     ∷ loadCase (listOf 64) 1 1 (loads (clusters 64 101) 1 1)
     ∷ loadCase (listOf 65) 1 1 (badLoad 1)

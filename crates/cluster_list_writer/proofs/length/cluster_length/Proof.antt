@@ -1,4 +1,4 @@
--- `cluster_list_writer::length::cluster_length` meets its contract. Each sum is a part of the whole, which has at most 186 bytes.
+-- `cluster_list_writer::length::cluster_length` meets its contract. Each sum is a part of the whole, which has at most 211 bytes.
 -- Assumes nothing.
 use Prim.Native.Nat.{_+_, _≤_}
 use native.Mathlib.Omega.{arith}
@@ -16,7 +16,7 @@ use Rattle.cluster_list_writer.proofs.length.cluster_length.Tie as tie
 
 whole : (c : tie.Start) → (let d = viewCluster (c .args .c) in
     length (digits (d .part)) + length (versionText (d .version)) + 4 + length (fieldsText (needCells (d .needs)))
-    + length (needLinesText fiveNames (drop 1 (d .needs))) ≤ 186)
+    + length (needLinesText fiveNames (drop 1 (d .needs))) ≤ 211)
 whole c = omega (arith, cluster-length-parts (viewCluster (c .args .c)), cluster-lines-most (viewCluster (c .args .c)) (c .pre))
 
 number-length-requires : tie.Need-number-length-requires

@@ -1,4 +1,4 @@
--- `examples::versions::read` is safe: the 23 bytes of a version fit the buffer. Assumes nothing.
+-- `examples::versions::read` is safe: the 28 bytes of a version fit the buffer. Assumes nothing.
 use native.Mathlib.Omega.{arith}
 use Rattle.text.proofs.Bytes.{version-most}
 use Rattle.text.proofs.Meaning.{whole-version-limits}

@@ -10,8 +10,8 @@ returns c = search dotted-at-end
 shared-slice-read-if2 : tie.Need-shared-slice-read-if2
 shared-slice-read-if2 c = search needs
 
-add-t9 : tie.Need-add-t9
-add-t9 c = search needs
+add-t10 : tie.Need-add-t10
+add-t10 c = search needs
 
 number-at-requires : tie.Need-number-at-requires
 number-at-requires c κs = search needs
@@ -25,4 +25,4 @@ returns-3 c = search dotted-no-dot
 pub dotted-at-spec : {M : Type 1} → statement M
 dotted-at-spec =
     tie.close
-    (tie.spec returns shared-slice-read-if2 add-t9 number-at-requires returns-2 returns-3)
+    (tie.spec returns shared-slice-read-if2 add-t10 number-at-requires returns-2 returns-3)

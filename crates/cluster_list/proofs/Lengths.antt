@@ -66,11 +66,12 @@ need-lines-most (n ∷ ns) h =
     )
 
 module _ (part : ℕ) (version : Version) (stays : Bool) (h : partWithin part ≡ true) (w : versionWithin version ≡ true) where
-  lines-most : (ns : List Need) → needsWithin ns ≡ true → length ns ≤ needsMost
-      → length (lineIn fiveNames (digits part ∷ versionText version ∷ needCells ns) (markText stays))
-      + length (needLinesText fiveNames (drop 1 ns)) ≤ 211
-  unfolding needsWithin needLinesText
-  lines-most [] n o =
+  abbrev lineWith : List Need → List ℕ
+  lineWith ns = lineIn fiveNames (digits part ∷ versionText version ∷ needCells ns) (markText stays)
+
+  cluster-line-most : (ns : List Need) → needsWithin ns ≡ true → length (lineWith ns) ≤ 82
+  unfolding needsWithin
+  cluster-line-most [] v =
       omega (
         arith,
         line-length (digits part) (versionText version) [] [] (markText stays),
@@ -78,7 +79,7 @@ module _ (part : ℕ) (version : Version) (stays : Bool) (h : partWithin part �
         version-most version w,
         mark-length stays,
       )
-  lines-most (n ∷ ns) v o =
+  cluster-line-most (n ∷ ns) v =
       omega (
         arith,
         line-length (digits part) (versionText version) (digits (n .part)) (versionText (n .least)) (markText stays),
@@ -86,8 +87,13 @@ module _ (part : ℕ) (version : Version) (stays : Bool) (h : partWithin part �
         version-most version w,
         mark-length stays,
         need-most n (and-left (needWithin n) _ v),
-        need-lines-most ns (and-right (needWithin n) _ v),
       )
+
+  -- 82 + 3 × 43
+  lines-most : (ns : List Need) → needsWithin ns ≡ true → length ns ≤ needsMost → length (lineWith ns) + length (needLinesText fiveNames (drop 1 ns)) ≤ 211
+  unfolding needsWithin needLinesText
+  lines-most [] v o = omega (arith, cluster-line-most [] v)
+  lines-most (n ∷ ns) v o = omega (arith, cluster-line-most (n ∷ ns) v, need-lines-most ns (and-right (needWithin n) _ v))
 
 pub cluster-lines-most : (c : Cluster) → clusterWithin c ≡ true → length (clusterLines fiveNames c) ≤ 211
 unfolding clusterWithin clusterLines

@@ -95,38 +95,33 @@ largestLine part y z = lineIn fiveNames (digits part ∷ versionText largestVers
 abbrev largestBelow : ℕ → List ℕ
 largestBelow n = needLinesText fiveNames (replicate n largestNeed)
 
+need-line-bytes : length (needLineText fiveNames largestNeed) ≡ 43
+unfolding needLineText
+need-line-bytes =
+    omega (arith, line-length [] [] (digits 4294967295) (versionText largestVersion) [], part-bytes, version-bytes)
+
 below-bytes : (n : ℕ) → length (largestBelow n) ≡ 43 * n
-unfolding needLinesText needLineText
+unfolding needLinesText
 below-bytes zero = refl
 below-bytes (suc n) =
-    omega (
-      arith,
-      length-append (needLineText fiveNames largestNeed) (largestBelow n),
-      line-length [] [] (digits 4294967295) (versionText largestVersion) [],
-      part-bytes,
-      version-bytes,
-      below-bytes n,
-    )
+    omega (arith, length-append (needLineText fiveNames largestNeed) (largestBelow n), need-line-bytes, below-bytes n)
 
-line-bytes : (part n : ℕ) (y z : List ℕ) → length (digits part) ≡ 10
-    → length (largestLine part y z ++ largestBelow n) ≡ 44 + length y + length z + 43 * n
-line-bytes part n y z ten =
-    omega (
-      arith,
-      length-append (largestLine part y z) (largestBelow n),
-      line-length (digits part) (versionText largestVersion) y z (bytes "0"),
-      version-bytes,
-      below-bytes n,
-    )
+module _ (part : ℕ) (ten : length (digits part) ≡ 10) where
+  line-bytes : (y z : List ℕ) → length (largestLine part y z) ≡ 44 + length y + length z
+  line-bytes y z = omega (arith, line-length (digits part) (versionText largestVersion) y z (bytes "0"), version-bytes)
 
-first-on-line : (part : ℕ) → length (digits part) ≡ 10 → length (linesWith fiveNames 1 (largest part)) ≡ 211
-unfolding linesWith
-first-on-line part ten =
-    line-bytes part 3 (digits 4294967295) (versionText largestVersion) ten ∙ omega (arith, part-bytes, version-bytes)
+  full-line-bytes : length (largestLine part (digits 4294967295) (versionText largestVersion)) ≡ 82
+  full-line-bytes = omega (arith, line-bytes (digits 4294967295) (versionText largestVersion), part-bytes, version-bytes)
 
-all-below : (part : ℕ) → length (digits part) ≡ 10 → length (linesWith fiveNames 0 (largest part)) ≡ 216
-unfolding linesWith
-all-below part ten = line-bytes part 4 [] [] ten
+  first-on-line : length (linesWith fiveNames 1 (largest part)) ≡ 211
+  unfolding linesWith
+  first-on-line =
+      length-append (largestLine part (digits 4294967295) (versionText largestVersion)) (largestBelow 3)
+      ∙ omega (arith, full-line-bytes, below-bytes 3)
+
+  all-below : length (linesWith fiveNames 0 (largest part)) ≡ 216
+  unfolding linesWith
+  all-below = length-append (largestLine part [] []) (largestBelow 4) ∙ omega (arith, line-bytes [] [], below-bytes 4)
 
 -- no list that is written is longer (proofs/Lengths.antt), and this one is as long
 pub longest-written : length (writeList longestTable) ≡ writtenListMost

@@ -25,7 +25,7 @@ pub const NO_VERSION: Version = Version {
 pub const VERSION_PART_MOST: u32 = 65535;
 
 // The largest value of the fourth part, the largest of 32 bits: the one place in the code that has this limit.
-pub const VERSION_LAST_MOST: u32 = 4294967295;
+const VERSION_LAST_MOST: u32 = 4294967295;
 
 // What reading a version finds: the version and the cursor behind it.
 pub enum VersionRead {

@@ -92,10 +92,10 @@ abbrev needLines : ℕ → List ℕ
 needLines zero = []
 needLines (suc n) = line ",,,,,20,1.0.0.0" ++ needLines n
 
--- a package with as many value lines behind the first
-abbrev withFurther : ℕ → List ℕ
-withFurther n =
-    line "action,cluster,version,payload,sum,needs,least" ++ line "install,30,1.0.0.0,0,0,," ++ needLines n ++ LF ∷ []
+-- a package with these value lines behind the first
+abbrev withFurther : List ℕ → List ℕ
+withFurther lines =
+    line "action,cluster,version,payload,sum,needs,least" ++ line "install,30,1.0.0.0,0,0,," ++ lines ++ LF ∷ []
 
 abbrev ofExit : List Answered
 ofExit =
@@ -105,12 +105,14 @@ ofExit =
     ∷ packageText "install,30,1.0.0.0,0,65536,," ""
     ∷ packageText "install,30,1.0.0.0,16777216,0,," ""
     ∷ packageText "install,30,1.0.0.0,16777217,0,," ""
-    ∷ withFurther 3
-    ∷ withFurther 4
+    ∷ withFurther (needLines 3)
+    ∷ withFurther (needLines 4)
     ∷ packageText "install,30,0.0.0.4294967295,0,0,20,0.0.0.4294967295" ""
     ∷ packageText "install,30,0.0.0.4294967296,0,0,20,0.0.0.4294967295" ""
     ∷ packageText "install,30,0.0.0.4294967295,0,0,20,0.0.0.4294967296" ""
     ∷ packageText "install,30,0.0.65536.0,0,0,," ""
+    ∷ withFurther (line ",,,,,20,0.0.0.4294967295")
+    ∷ withFurther (line ",,,,,20,0.0.0.4294967296")
     ∷ [])
     calls
     ( -- "sum 0 to 65,535"
@@ -122,11 +124,14 @@ ofExit =
     -- "1 to 4 value lines"
     ∷ transferExit 5 gives done
     ∷ transferExit 6 isRefusedBy 9
-    -- A.7: "The fourth version part may be 0 to 4,294,967,295.", of the cluster and of a need's least version; the others stay
+    -- A.7: "The fourth version part may be 0 to 4,294,967,295.", of the cluster and of a need's least version, on a further line too; the
+    -- others stay
     ∷ transferExit 7 gives done
     ∷ transferExit 8 isRefusedBy 9
     ∷ transferExit 9 isRefusedBy 9
     ∷ transferExit 10 isRefusedBy 9
+    ∷ transferExit 11 gives done
+    ∷ transferExit 12 isRefusedBy 9
     ∷ [])
     ∷ []
 

@@ -78,6 +78,9 @@ cases =
     (loads (cluster 20 (version 0 0 0 4294967295) (need 20 (version 0 0 0 4294967295) ∷ []) ∷ []) 1 1)
     ∷ loadCase (fourNamesText "20,0.0.0.4294967296,,") 1 1 (badLoad 1)
     ∷ loadCase (fourNamesText "20,0.0.0.0,20,0.0.0.4294967296") 1 1 (badLoad 1)
+    ∷ loadCase (fourNamesText "20,0.0.0.0,," ++ line ",,20,0.0.0.4294967295") 1 1
+    (loads (cluster 20 (version 0 0 0 0) (need 20 (version 0 0 0 4294967295) ∷ []) ∷ []) 1 1)
+    ∷ loadCase (fourNamesText "20,0.0.0.0,," ++ line ",,20,0.0.0.4294967296") 1 1 (badLoad 1)
     ∷ loadCase (fourNamesText "20,0.0.65536.0,,") 1 1 (badLoad 1)
     -- "at most 64 clusters"
     ∷ loadCase (listOf 64) 1 1 (loads (clusters 64 101) 1 1)

@@ -65,35 +65,35 @@ need-lines-most (n ∷ ns) h =
       need-lines-most ns (and-right (needWithin n) _ h),
     )
 
-module _ (part : ℕ) (version : Version) (stays : Bool) (h : partWithin part ≡ true) (w : versionWithin version ≡ true) where
-  abbrev lineWith : List Need → List ℕ
-  lineWith ns = lineIn fiveNames (digits part ∷ versionText version ∷ needCells ns) (markText stays)
+module _ (part : ℕ) (version : Version) (stays : Bool) where
+  -- the line that begins the cluster, with its first need
+  abbrev beginningLine : List Need → List ℕ
+  beginningLine ns = lineIn fiveNames (digits part ∷ versionText version ∷ needCells ns) (markText stays)
 
-  cluster-line-most : (ns : List Need) → needsWithin ns ≡ true → length (lineWith ns) ≤ 82
-  unfolding needsWithin
-  cluster-line-most [] v =
-      omega (
-        arith,
-        line-length (digits part) (versionText version) [] [] (markText stays),
-        part-most part h,
-        version-most version w,
-        mark-length stays,
-      )
-  cluster-line-most (n ∷ ns) v =
-      omega (
-        arith,
-        line-length (digits part) (versionText version) (digits (n .part)) (versionText (n .least)) (markText stays),
-        part-most part h,
-        version-most version w,
-        mark-length stays,
-        need-most n (and-left (needWithin n) _ v),
-      )
+  module _ (h : partWithin part ≡ true) (w : versionWithin version ≡ true) where
+    with-cells-most : (y z : List ℕ) → length y + length z ≤ 38
+        → length (lineIn fiveNames (digits part ∷ versionText version ∷ y ∷ z ∷ []) (markText stays)) ≤ 82
+    with-cells-most y z o =
+        omega (
+          arith,
+          line-length (digits part) (versionText version) y z (markText stays),
+          part-most part h,
+          version-most version w,
+          mark-length stays,
+        )
 
-  -- 82 + 3 × 43
-  lines-most : (ns : List Need) → needsWithin ns ≡ true → length ns ≤ needsMost → length (lineWith ns) + length (needLinesText fiveNames (drop 1 ns)) ≤ 211
-  unfolding needsWithin needLinesText
-  lines-most [] v o = omega (arith, cluster-line-most [] v)
-  lines-most (n ∷ ns) v o = omega (arith, cluster-line-most (n ∷ ns) v, need-lines-most ns (and-right (needWithin n) _ v))
+    beginning-line-most : (ns : List Need) → needsWithin ns ≡ true → length (beginningLine ns) ≤ 82
+    unfolding needsWithin
+    beginning-line-most [] v = with-cells-most [] [] (omega arith)
+    beginning-line-most (n ∷ ns) v =
+        with-cells-most (digits (n .part)) (versionText (n .least)) (need-most n (and-left (needWithin n) _ v))
+
+    -- 82 + 3 × 43
+    lines-most : (ns : List Need) → needsWithin ns ≡ true → length ns ≤ needsMost
+        → length (beginningLine ns) + length (needLinesText fiveNames (drop 1 ns)) ≤ 211
+    unfolding needsWithin needLinesText
+    lines-most [] v o = omega (arith, beginning-line-most [] v)
+    lines-most (n ∷ ns) v o = omega (arith, beginning-line-most (n ∷ ns) v, need-lines-most ns (and-right (needWithin n) _ v))
 
 pub cluster-lines-most : (c : Cluster) → clusterWithin c ≡ true → length (clusterLines fiveNames c) ≤ 211
 unfolding clusterWithin clusterLines
@@ -102,8 +102,7 @@ cluster-lines-most c within =
     let behind-version = and-right (versionWithin (c .version)) _ behind-part in
     omega (
       arith,
-      length-append (lineIn fiveNames (digits (c .part) ∷ versionText (c .version) ∷ needCells (c .needs)) (markText (c .stays)))
-          (needLinesText fiveNames (drop 1 (c .needs))),
+      length-append (beginningLine (c .part) (c .version) (c .stays) (c .needs)) (needLinesText fiveNames (drop 1 (c .needs))),
       lines-most (c .part) (c .version) (c .stays) (and-left (partWithin (c .part)) _ within) (and-left (versionWithin (c .version)) _ behind-part)
           (c .needs) (and-right (leb (length (c .needs)) needsMost) _ behind-version) (leb-true (length (c .needs)) needsMost (and-left _ _ behind-version)),
     )

@@ -1,10 +1,10 @@
 // Work: payload bytes are taken into the sum, and processing ends by a cancel or with no payload left.
 mod ending;
-mod payload;
+mod payload_bytes;
 
 use crate::ending::compare_sum;
 use crate::ending::end_processing;
-use crate::payload::take_payload;
+use crate::payload_bytes::take_payload;
 use areas::lookup::processing_place;
 use areas::sizes::area_start;
 use refusal::BAD_STATE;

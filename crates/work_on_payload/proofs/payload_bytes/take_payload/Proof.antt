@@ -1,9 +1,9 @@
--- `work_on_payload::payload::take_payload` meets its contract: the part of the store that is summed lies in it and is the one that the
+-- `work_on_payload::payload_bytes::take_payload` meets its contract: the part of the store that is summed lies in it and is the one that the
 -- definition takes. Assumes nothing.
 use borrow.Author.Needs.{needs}
 use Rattle.work_on_payload.proofs.PayloadLaws.{summed}
-use Rattle.work_on_payload.proofs.payload.take_payload.Statement.{statement}
-use Rattle.work_on_payload.proofs.payload.take_payload.Tie as tie
+use Rattle.work_on_payload.proofs.payload_bytes.take_payload.Statement.{statement}
+use Rattle.work_on_payload.proofs.payload_bytes.take_payload.Tie as tie
 
 count-taken-requires : tie.Need-count-taken-requires
 count-taken-requires c κs = search needs

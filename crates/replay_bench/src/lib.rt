@@ -1,6 +1,6 @@
 // The bench that the program `replay` is: plays a script of calls from standard input against one manager and writes every answer to
-// standard output. Each line is answered before more is read. It ends at the end of the input, at a read that fails or at a write that
-// fails.
+// standard output. Each line is answered before more is read. It ends at the end of the input, or where a read or a write
+// fails: standard error then says why.
 mod bench;
 mod gather;
 mod packages;
@@ -50,6 +50,9 @@ fn read_some(
     requires { ⌜ bench .«goes_on» ≡ true ⌝ }
 {
     let got = libc::read(STDIN_FILENO, input);
+    if got < 0 {
+        os::fail(b"replay: standard input");
+    }
     if got == 0 {
         take_end(bench);
     }

@@ -6,6 +6,7 @@ use crate::packages_by_value::packages_by_value;
 use crate::show::show_answer;
 use crate::show::show_bytes;
 use crate::show::show_number;
+use crate::show::show_state;
 use crate::show::show_text;
 use crate::show::show_unknown;
 use crate::waves::waves_line;
@@ -69,7 +70,7 @@ fn changes_line(s: State, store: &[u8], room: u32, buffer: &mut [u8]) -> bool {
     show_report(reply, buffer)
 }
 
-// A line of a reading call or of the old status, or the one that shows the store. Any other is `unknown`.
+// Answers a line of a reading call or of the old status, or one that shows the manager's state or the store. Any other is `unknown`.
 pub fn reading_line(s: State, store: &[u8], line: ScriptLine, buffer: &mut [u8]) -> bool {
     match line {
         ScriptLine::Packages { room } => show_packages(packages_by_value(s, store, room as usize)),
@@ -80,6 +81,7 @@ pub fn reading_line(s: State, store: &[u8], line: ScriptLine, buffer: &mut [u8])
         ScriptLine::Check { id } => show_number(b"check ", payload_check(s, store, id)),
         ScriptLine::Progress => show_reply(b"progress ", progress(s, store)),
         ScriptLine::OldStatus => show_number(b"old ", status(s, store) as u32),
+        ScriptLine::State => show_state(s, store),
         ScriptLine::Store => show_bytes(b"store ", store),
         _ => show_unknown(),
     }

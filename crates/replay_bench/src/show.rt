@@ -3,15 +3,22 @@ ghost use Prim.Native.Nat.{_+_, _≤_, _<_};
 ghost use lib.ListN.{length};
 use libc::STDOUT_FILENO;
 use script_answers::answer::put_answer;
+use script_answers::manager_state::put_state;
 use script_answers::named::put_named;
 use script_bytes::hex::put_bytes_digits;
 use state::answer::Answer;
+use state::state::State;
 
 // How many bytes are shown by one write.
 const PART: usize = 32768;
 
+// Writes a text. Where a write fails, standard error says why.
 pub fn show_text(text: &[u8]) -> bool {
-    io::write_all(STDOUT_FILENO, text)
+    if !io::write_all(STDOUT_FILENO, text) {
+        os::fail(b"replay: standard output");
+        return false;
+    }
+    true
 }
 
 pub fn show_unknown() -> bool {
@@ -21,6 +28,13 @@ pub fn show_unknown() -> bool {
 pub fn show_answer(answer: Answer) -> bool {
     let mut line = [0u8; 20];
     let end = put_answer(&mut line, answer);
+    show_text(&line[..end])
+}
+
+// Writes the answer to the line `state`.
+pub fn show_state(s: State, store: &[u8]) -> bool {
+    let mut line = [0u8; 20];
+    let end = put_state(&mut line, s, store.len());
     show_text(&line[..end])
 }
 

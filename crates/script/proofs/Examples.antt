@@ -47,6 +47,7 @@ lines-computed : AllHold lineOf
     ∷ "payload 11" gives line.Payload 11
     ∷ "check 12" gives line.Check 12
     ∷ "progress" gives line.Progress
+    ∷ "state" gives line.State
     ∷ "store" gives line.Store
     ∷ "poke 13 -" gives line.Poke 13 (place 8 9)
     ∷ "# load" gives line.Remark
@@ -105,6 +106,10 @@ unknown-computed : AllHold lineOf
     ∷ "data 1 -" gives line.Unknown
     ∷ "load 1 1" gives line.Unknown
     ∷ "poke 1" gives line.Unknown
+    ∷ "State" gives line.Unknown
+    ∷ "state 1" gives line.Unknown
+    ∷ "state " gives line.Unknown
+    ∷ "states" gives line.Unknown
     ∷ "waves" gives line.Unknown
     ∷ "wave 1" gives line.Unknown
     ∷ "waves 1 2" gives line.Unknown

@@ -84,14 +84,20 @@ transferLine w n =
 
 -- ---- lines of fixed words
 
--- "`report good`, `report bad`", "`progress`", "`store`"
+-- "`progress`", "`store`"; and `state`, which shows the manager's state
 unfoldable pub showLine : List ℕ → ScriptLine
 showLine s =
+    cond (sameBytes s (bytes "progress")) line.Progress
+    (cond (sameBytes s (bytes "state")) line.State
+    (cond (sameBytes s (bytes "store")) line.Store
+    line.Unknown))
+
+-- "`report good`, `report bad`"
+unfoldable pub reportLine : List ℕ → ScriptLine
+reportLine s =
     cond (sameBytes s (bytes "report good")) (line.Call (call.Report true))
     (cond (sameBytes s (bytes "report bad")) (line.Call (call.Report false))
-    (cond (sameBytes s (bytes "progress")) line.Progress
-    (cond (sameBytes s (bytes "store")) line.Store
-    line.Unknown)))
+    (showLine s))
 
 -- "`revert`, `activate`, `rollback`, `finish`"
 unfoldable pub sessionLine : List ℕ → ScriptLine
@@ -100,7 +106,7 @@ sessionLine s =
     (cond (sameBytes s (bytes "activate")) (line.Call call.Activate)
     (cond (sameBytes s (bytes "rollback")) (line.Call call.Rollback)
     (cond (sameBytes s (bytes "finish")) (line.Call call.Finish)
-    (showLine s))))
+    (reportLine s))))
 
 -- ---- lines of the old calls: the words behind `old`
 

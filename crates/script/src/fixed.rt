@@ -1,22 +1,19 @@
 // Lines of fixed words.
 ghost use mathlib.Core.Path.{_≡_};
-ghost use Rattle.script.specs.Line.{sessionLine, showLine};
+ghost use Rattle.script.specs.Line.{sessionLine, reportLine, showLine};
 use crate::line::ScriptLine;
 use request::Request;
 use text::word::is_word;
 
-// Report, Progress and the line that shows the store.
+// Reads Progress and the lines that show the manager's state and the store.
 fn show_line(s: &[u8]) -> ScriptLine
     ensures { λ r. ⌜ r ≡ showLine (now (s .entry)) ⌝ }
 {
-    if is_word(s, b"report good") {
-        return ScriptLine::Call(Request::Report(true));
-    }
-    if is_word(s, b"report bad") {
-        return ScriptLine::Call(Request::Report(false));
-    }
     if is_word(s, b"progress") {
         return ScriptLine::Progress;
+    }
+    if is_word(s, b"state") {
+        return ScriptLine::State;
     }
     if is_word(s, b"store") {
         return ScriptLine::Store;
@@ -24,7 +21,20 @@ fn show_line(s: &[u8]) -> ScriptLine
     ScriptLine::Unknown
 }
 
-// The calls that end a session, or one of the lines above.
+// Reads Report, or one of the lines above.
+fn report_line(s: &[u8]) -> ScriptLine
+    ensures { λ r. ⌜ r ≡ reportLine (now (s .entry)) ⌝ }
+{
+    if is_word(s, b"report good") {
+        return ScriptLine::Call(Request::Report(true));
+    }
+    if is_word(s, b"report bad") {
+        return ScriptLine::Call(Request::Report(false));
+    }
+    show_line(s)
+}
+
+// Reads the calls that end a session, or one of the lines above.
 pub fn session_line(s: &[u8]) -> ScriptLine
     ensures { λ r. ⌜ r ≡ sessionLine (now (s .entry)) ⌝ }
 {
@@ -40,5 +50,5 @@ pub fn session_line(s: &[u8]) -> ScriptLine
     if is_word(s, b"finish") {
         return ScriptLine::Call(Request::Finish);
     }
-    show_line(s)
+    report_line(s)
 }

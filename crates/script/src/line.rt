@@ -36,6 +36,7 @@ pub enum ScriptLine {
     Payload { id: u32 },
     Check { id: u32 },
     Progress,
+    State,
     Store,
     Poke { at: u32, bytes: Place },
     Remark,

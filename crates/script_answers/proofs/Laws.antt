@@ -1,6 +1,7 @@
--- Lines put into a buffer: the room for each part, the whole line, and the line of each answer. Assumes nothing.
+-- Lines put into a buffer: the room for each part, the whole line, and the line of each answer and of each state. Assumes nothing.
 use Prim.Native.Nat.{ℕ, _+_, _≤_, _<_}
 use mathlib.Core.Path.{_≡_, sym}
+use mathlib.Core.Bool.{true, false}
 use mathlib.Core.List.{List, [], _∷_}
 use native.Mathlib.Omega.{arith}
 use lib.ListN.{length, take}
@@ -12,8 +13,14 @@ use Rattle.text.specs.Digits.{digits}
 use Rattle.text.specs.Put.{Put}
 use Rattle.text.proofs.DigitLaws.{ten-digits}
 use Rattle.text.proofs.PutLaws.{put-length, put-then}
+use Rattle.model.specs.State.{State}
+use Rattle.model.specs.Sound.{soundFor}
 use Rattle.state.specs.declared.answer.Answer.{Answer}
+use Rattle.state.specs.declared.answer.Answer.the-variants.{Refused}
+use Rattle.state.specs.declared.phase.Phase.{Phase}
+use Rattle.state.specs.View.{viewPhase}
 use Rattle.script_answers.specs.Answers.{endedNumber, namedLine, recordLine, waveLine, numberDigitsMost, answerText}
+use Rattle.script_answers.specs.ManagerState.{stateLine, stateAnswer}
 
 -- what ends within a buffer is a part of it
 pub counted : (m : List ℕ) (r : ℕ) → r ≤ length m → r ≡ length (take r m)
@@ -83,3 +90,19 @@ module _ (l : List ℕ) (a b c d : ℕ) (p q r e : ℕ) (m k j i : List ℕ)
 -- a is the answer that the code matched as b
 pub said : (l : List ℕ) (at : ℕ) (a b : Answer) (r : ℕ) (m : List ℕ) → a ≡ b → Put l at (answerText b) r m → Put l at (answerText a) r m
 said l at a b r m e p = rw e p
+
+-- ---- the manager's state
+
+-- a is the state that the code matched as b
+pub named-state : (l : List ℕ) (a b : Phase) (r : ℕ) (m : List ℕ) → a ≡ b → Put l 0 (stateLine (viewPhase b)) r m
+    → Put l 0 (stateLine (viewPhase a)) r m
+named-state l a b r m e p = rw e p
+
+module _ (l : List ℕ) (s : State) (size : ℕ) (r : ℕ) (m : List ℕ) where
+  -- refused where the state is not sound
+  pub unsound-state : soundFor s size ≡ false → Put l 0 (answerText (Refused 1)) r m → Put l 0 (stateAnswer s size) r m
+  unsound-state e p = rw e p
+
+  -- and named where it is
+  pub sound-state : soundFor s size ≡ true → Put l 0 (stateLine (s .phase)) r m → Put l 0 (stateAnswer s size) r m
+  sound-state e p = rw e p

@@ -85,6 +85,7 @@ lineGives text (line.Waves room) k bytes = lineOutcome (nothingChanged line-answ
 lineGives text (line.Payload id) k bytes = lineOutcome (nothingChanged line-answer.Shown k) bytes
 lineGives text (line.Check id) k bytes = lineOutcome (nothingChanged line-answer.Shown k) bytes
 lineGives text line.Progress k bytes = lineOutcome (nothingChanged line-answer.Shown k) bytes
+lineGives text line.State k bytes = lineOutcome (nothingChanged line-answer.Shown k) bytes
 lineGives text line.Store k bytes = lineOutcome (nothingChanged line-answer.Shown k) bytes
 lineGives text (line.Poke at word) k bytes = poking at (blockBytes (partAt text word)) k bytes
 lineGives text line.Remark k bytes = lineOutcome (nothingChanged line-answer.Shown k) bytes

@@ -54,6 +54,7 @@ pub fn play(
         ScriptLine::Payload { id: _ } => nothing_changed(LineAnswer::Shown, kept),
         ScriptLine::Check { id: _ } => nothing_changed(LineAnswer::Shown, kept),
         ScriptLine::Progress => nothing_changed(LineAnswer::Shown, kept),
+        ScriptLine::State => nothing_changed(LineAnswer::Shown, kept),
         ScriptLine::Store => nothing_changed(LineAnswer::Shown, kept),
         ScriptLine::Poke { at, bytes: word } => play_poke(kept, bytes, at, part_at(text, word)),
         ScriptLine::Remark => nothing_changed(LineAnswer::Shown, kept),

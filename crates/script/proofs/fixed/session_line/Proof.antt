@@ -45,8 +45,8 @@ returns-4 : tie.Need-returns-4
 unfolding sessionLine
 returns-4 c = search told-ladder depth 9
 
-show-line-requires : tie.Need-show-line-requires
-show-line-requires c κs = search needs
+report-line-requires : tie.Need-report-line-requires
+report-line-requires c κs = search needs
 
 returns-5 : tie.Need-returns-5
 unfolding sessionLine
@@ -68,5 +68,5 @@ session-line-spec =
     slice-aggregate-is-word-4
     is-word-requires-4
     returns-4
-    show-line-requires
+    report-line-requires
     returns-5)

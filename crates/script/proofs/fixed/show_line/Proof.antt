@@ -35,19 +35,9 @@ returns-3 : tie.Need-returns-3
 unfolding showLine
 returns-3 c = search told-ladder depth 9
 
-slice-aggregate-is-word-4 : tie.Need-slice-aggregate-is-word-4
-slice-aggregate-is-word-4 c = search needs
-
-is-word-requires-4 : tie.Need-is-word-requires-4
-is-word-requires-4 c κs = search needs
-
 returns-4 : tie.Need-returns-4
 unfolding showLine
 returns-4 c = search told-ladder depth 9
-
-returns-5 : tie.Need-returns-5
-unfolding showLine
-returns-5 c = search told-ladder depth 9
 
 pub show-line-spec : {M : Type 1} → statement M
 show-line-spec =
@@ -62,7 +52,4 @@ show-line-spec =
     slice-aggregate-is-word-3
     is-word-requires-3
     returns-3
-    slice-aggregate-is-word-4
-    is-word-requires-4
-    returns-4
-    returns-5)
+    returns-4)

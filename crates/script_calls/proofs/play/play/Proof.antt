@@ -96,6 +96,12 @@ enum-told-9 c = search needs
 nothing-changed-requires-9 : tie.Need-nothing-changed-requires-9
 nothing-changed-requires-9 c κs = search needs
 
+enum-told-10 : tie.Need-enum-told-10
+enum-told-10 c = search needs
+
+nothing-changed-requires-10 : tie.Need-nothing-changed-requires-10
+nothing-changed-requires-10 c κs = search needs
+
 enum-known-line-5 : tie.Need-enum-known-line-5
 enum-known-line-5 c = search needs
 
@@ -105,17 +111,17 @@ part-at-requires-3 c κs = search needs
 play-poke-requires : tie.Need-play-poke-requires
 play-poke-requires c κs = search needs
 
-enum-told-10 : tie.Need-enum-told-10
-enum-told-10 c = search needs
-
-nothing-changed-requires-10 : tie.Need-nothing-changed-requires-10
-nothing-changed-requires-10 c κs = search needs
-
 enum-told-11 : tie.Need-enum-told-11
 enum-told-11 c = search needs
 
 nothing-changed-requires-11 : tie.Need-nothing-changed-requires-11
 nothing-changed-requires-11 c κs = search needs
+
+enum-told-12 : tie.Need-enum-told-12
+enum-told-12 c = search needs
+
+nothing-changed-requires-12 : tie.Need-nothing-changed-requires-12
+nothing-changed-requires-12 c κs = search needs
 
 same-length : tie.Need-same-length
 same-length c = search needs
@@ -186,19 +192,23 @@ returns-13 : tie.Need-returns-13
 unfolding lineGives
 returns-13 c = search (other-line, same-played)
 
+returns-14 : tie.Need-returns-14
+unfolding lineGives
+returns-14 c = search (other-line, same-played)
+
 same-length-8 : tie.Need-same-length-8
 same-length-8 c = search needs
 
-returns-14 : tie.Need-returns-14
-returns-14 c = search poke-line
-
 returns-15 : tie.Need-returns-15
-unfolding lineGives
-returns-15 c = search (other-line, same-played)
+returns-15 c = search poke-line
 
 returns-16 : tie.Need-returns-16
 unfolding lineGives
 returns-16 c = search (other-line, same-played)
+
+returns-17 : tie.Need-returns-17
+unfolding lineGives
+returns-17 c = search (other-line, same-played)
 
 pub play-spec : {M : Type 1} → statement M
 play-spec =
@@ -234,13 +244,15 @@ play-spec =
     nothing-changed-requires-8
     enum-told-9
     nothing-changed-requires-9
+    enum-told-10
+    nothing-changed-requires-10
     enum-known-line-5
     part-at-requires-3
     play-poke-requires
-    enum-told-10
-    nothing-changed-requires-10
     enum-told-11
     nothing-changed-requires-11
+    enum-told-12
+    nothing-changed-requires-12
     same-length
     same-length-2
     returns
@@ -261,7 +273,8 @@ play-spec =
     returns-11
     returns-12
     returns-13
-    same-length-8
     returns-14
+    same-length-8
     returns-15
-    returns-16)
+    returns-16
+    returns-17)

@@ -26,7 +26,7 @@ use Rattle.packages_report.specs.Records.{recordOf, clearedRecord, recor
 use Rattle.reading_reply.specs.declared.ReadingReply.{ReadingReply as Reply}
 use Rattle.reading_reply.specs.declared.ReadingReply.the-variants.{Refused, ShortBuffer, Given}
 use Rattle.reading_reply.specs.Reply.{replyOf}
-use Rattle.packages_report.specs.declared.report.PackagesReport.{PackagesReport}
+use Rattle.packages_report.specs.declared.by_value.PackagesReport.{PackagesReport}
 use Rattle.packages_report.specs.Packages.{listed, packagesReply, viewList, packagesGiven, noneWritten, reportWith, filledFrom}
 
 -- ---- the reply

@@ -15,7 +15,7 @@ use Rattle.packages_report.specs.Records.{recordOf, clearedRecord, viewR
 use Rattle.reading_reply.specs.declared.ReadingReply.{ReadingReply as Reply}
 use Rattle.reading_reply.specs.declared.ReadingReply.the-variants.{Refused, ShortBuffer, Given}
 use Rattle.reading_reply.specs.Reply.{viewReport}
-use Rattle.packages_report.specs.declared.report.PackagesReport.{PackagesReport}
+use Rattle.packages_report.specs.declared.by_value.PackagesReport.{PackagesReport}
 
 -- ---- what Packages answers and leaves in the lent list
 

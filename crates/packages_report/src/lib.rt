@@ -1,12 +1,12 @@
 // Packages: "Packages fills a lent list of records (id, size, received, state) in id order."
+mod by_value;
 mod records;
-mod report;
 
-use crate::report::PackagesReport;
-use crate::report::answer_of;
-use crate::report::copied;
-use crate::report::record_at;
-use crate::report::report_within;
+use crate::by_value::PackagesReport;
+use crate::by_value::answer_of;
+use crate::by_value::copied;
+use crate::by_value::record_at;
+use crate::by_value::report_within;
 use reading_reply::ReadingReply;
 use state::state::State;
 ghost use mathlib.Core.Path.{_≡_};

@@ -62,23 +62,23 @@ use Rattle.packages_report.proofs.records.Records.Laws as U′
 use Rattle.reading_reply.specs.declared.ReadingReply.{ReadingReply as Reply}
 use Rattle.reading_reply.proofs.ReadingReply as S
 use Rattle.reading_reply.proofs.ReadingReply.Laws as S′
-use Rattle.packages_report.specs.declared.report.PackagesReport.{PackagesReport}
+use Rattle.packages_report.specs.declared.by_value.PackagesReport.{PackagesReport}
 use Rattle.packages_report.specs.Packages.{copiedOf, recordAt, firstFrom, filledFrom}
 use Rattle.packages_report.proofs.Copied.{copied-next, copied-length, copied-bounds}
-use Rattle.packages_report.proofs.report.PackagesReport as T
-use Rattle.packages_report.proofs.report.PackagesReport.Laws as T′
-use Rattle.packages_report.proofs.report.copied as copied
-use Rattle.packages_report.proofs.report.copied.Symbol as copied-def
-use Rattle.packages_report.proofs.report.copied.Symbol.{name as #copied}
-use Rattle.packages_report.proofs.report.copied.Met as copied-thm
-use Rattle.packages_report.proofs.report.record_at as record-at
-use Rattle.packages_report.proofs.report.record_at.Symbol as record-at-def
-use Rattle.packages_report.proofs.report.record_at.Symbol.{name as #record-at}
-use Rattle.packages_report.proofs.report.record_at.Met as record-at-thm
-use Rattle.packages_report.proofs.report.answer_of as answer-of
-use Rattle.packages_report.proofs.report.answer_of.Symbol as answer-of-def
-use Rattle.packages_report.proofs.report.answer_of.Symbol.{name as #answer-of}
-use Rattle.packages_report.proofs.report.answer_of.Met as answer-of-thm
+use Rattle.packages_report.proofs.by_value.PackagesReport as T
+use Rattle.packages_report.proofs.by_value.PackagesReport.Laws as T′
+use Rattle.packages_report.proofs.by_value.copied as copied
+use Rattle.packages_report.proofs.by_value.copied.Symbol as copied-def
+use Rattle.packages_report.proofs.by_value.copied.Symbol.{name as #copied}
+use Rattle.packages_report.proofs.by_value.copied.Met as copied-thm
+use Rattle.packages_report.proofs.by_value.record_at as record-at
+use Rattle.packages_report.proofs.by_value.record_at.Symbol as record-at-def
+use Rattle.packages_report.proofs.by_value.record_at.Symbol.{name as #record-at}
+use Rattle.packages_report.proofs.by_value.record_at.Met as record-at-thm
+use Rattle.packages_report.proofs.by_value.answer_of as answer-of
+use Rattle.packages_report.proofs.by_value.answer_of.Symbol as answer-of-def
+use Rattle.packages_report.proofs.by_value.answer_of.Symbol.{name as #answer-of}
+use Rattle.packages_report.proofs.by_value.answer_of.Met as answer-of-thm
 use Rattle.packages_report.proofs.fill.Key.{name as #fill}
 use Rattle.packages_report.proofs.fill as fill
 use Rattle.packages_report.proofs.fill.Statement as stated
@@ -363,6 +363,6 @@ fill-spec 𝓤 H 𝓜 𝓖 𝓡 =
     entered 𝓤 H (tripleOf 𝓤 H (𝓖 .A) fill.signature (fill.spec 𝓤 H (𝓖 .A) (𝓜 .mem) (𝓡 .run)))
     (tables 𝓤 H 𝓜 𝓡 code.env .C) (tables 𝓤 H 𝓜 𝓡 code.env .Λ) #fill code.function (code.unfolded 𝓤 H 𝓜 𝓡)
     (fill-meets 𝓤 H (𝓖 .A) (givenOf 𝓤 H 𝓜 𝓖) (𝓜 .mem) (𝓡 .run) (tablesOf 𝓤 H 𝓜 (tables 𝓤 H 𝓜 𝓡 code.env))
-    (cited 𝓤 H (Copied 𝓤 H (𝓖 .A) (𝓜 .mem) (𝓡 .run)) 𝓜 𝓡 code.env #copied copied-def.routine code.calls-packages-report·report·copied (copied-thm.met 𝓤 H 𝓜 𝓖 𝓡))
-    (cited 𝓤 H (RecordAt 𝓤 H (𝓖 .A) (𝓜 .mem) (𝓡 .run)) 𝓜 𝓡 code.env #record-at record-at-def.routine code.calls-packages-report·report·record-at (record-at-thm.met 𝓤 H 𝓜 𝓖 𝓡))
-    (cited 𝓤 H (AnswerOf 𝓤 H (𝓖 .A) (𝓜 .mem) (𝓡 .run)) 𝓜 𝓡 code.env #answer-of answer-of-def.routine code.calls-packages-report·report·answer-of (answer-of-thm.met 𝓤 H 𝓜 𝓖 𝓡)))
+    (cited 𝓤 H (Copied 𝓤 H (𝓖 .A) (𝓜 .mem) (𝓡 .run)) 𝓜 𝓡 code.env #copied copied-def.routine code.calls-packages-report·by-value·copied (copied-thm.met 𝓤 H 𝓜 𝓖 𝓡))
+    (cited 𝓤 H (RecordAt 𝓤 H (𝓖 .A) (𝓜 .mem) (𝓡 .run)) 𝓜 𝓡 code.env #record-at record-at-def.routine code.calls-packages-report·by-value·record-at (record-at-thm.met 𝓤 H 𝓜 𝓖 𝓡))
+    (cited 𝓤 H (AnswerOf 𝓤 H (𝓖 .A) (𝓜 .mem) (𝓡 .run)) 𝓜 𝓡 code.env #answer-of answer-of-def.routine code.calls-packages-report·by-value·answer-of (answer-of-thm.met 𝓤 H 𝓜 𝓖 𝓡)))

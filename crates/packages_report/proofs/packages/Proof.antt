@@ -53,16 +53,16 @@ use Rattle.reading_reply.specs.declared.ReadingReply.{ReadingReply as Reply}
 use Rattle.reading_reply.specs.Reply.{replyOf}
 use Rattle.reading_reply.proofs.ReadingReply as S
 use Rattle.reading_reply.proofs.ReadingReply.Laws as S′
-use Rattle.packages_report.specs.declared.report.PackagesReport.{PackagesReport}
+use Rattle.packages_report.specs.declared.by_value.PackagesReport.{PackagesReport}
 use Rattle.packages_report.specs.Packages.{packagesReply, reportWith, filledFrom, listed, viewList, packagesGiven}
 use Rattle.packages_report.proofs.PackagesArray.{packages-array}
 use Rattle.packages_report.proofs.Reported.{packages-given}
-use Rattle.packages_report.proofs.report.PackagesReport as T
-use Rattle.packages_report.proofs.report.PackagesReport.Laws as T′
-use Rattle.packages_report.proofs.report.report_within as report-within
-use Rattle.packages_report.proofs.report.report_within.Symbol as report-within-def
-use Rattle.packages_report.proofs.report.report_within.Symbol.{name as #report-within}
-use Rattle.packages_report.proofs.report.report_within.Met as report-within-thm
+use Rattle.packages_report.proofs.by_value.PackagesReport as T
+use Rattle.packages_report.proofs.by_value.PackagesReport.Laws as T′
+use Rattle.packages_report.proofs.by_value.report_within as report-within
+use Rattle.packages_report.proofs.by_value.report_within.Symbol as report-within-def
+use Rattle.packages_report.proofs.by_value.report_within.Symbol.{name as #report-within}
+use Rattle.packages_report.proofs.by_value.report_within.Met as report-within-thm
 use Rattle.packages_report.proofs.fill as fill
 use Rattle.packages_report.proofs.fill.Symbol as fill-def
 use Rattle.packages_report.proofs.fill.Symbol.{name as #fill}
@@ -220,5 +220,5 @@ packages-spec 𝓤 H 𝓜 𝓖 𝓡 =
     entered 𝓤 H (tripleOf 𝓤 H (𝓖 .A) packages.signature (packages.spec 𝓤 H (𝓖 .A) (𝓜 .mem) (𝓡 .run)))
     (tables 𝓤 H 𝓜 𝓡 code.env .C) (tables 𝓤 H 𝓜 𝓡 code.env .Λ) #packages code.function (code.unfolded 𝓤 H 𝓜 𝓡)
     (packages-meets 𝓤 H (𝓖 .A) (givenOf 𝓤 H 𝓜 𝓖) (𝓜 .mem) (𝓡 .run) (tablesOf 𝓤 H 𝓜 (tables 𝓤 H 𝓜 𝓡 code.env))
-    (cited 𝓤 H (ReportWithin 𝓤 H (𝓖 .A) (𝓜 .mem) (𝓡 .run)) 𝓜 𝓡 code.env #report-within report-within-def.routine code.calls-packages-report·report·report-within (report-within-thm.met 𝓤 H 𝓜 𝓖 𝓡))
+    (cited 𝓤 H (ReportWithin 𝓤 H (𝓖 .A) (𝓜 .mem) (𝓡 .run)) 𝓜 𝓡 code.env #report-within report-within-def.routine code.calls-packages-report·by-value·report-within (report-within-thm.met 𝓤 H 𝓜 𝓖 𝓡))
     (cited 𝓤 H (Fill 𝓤 H (𝓖 .A) (𝓜 .mem) (𝓡 .run)) 𝓜 𝓡 code.env #fill fill-def.routine code.calls-packages-report·fill (fill-thm.met 𝓤 H 𝓜 𝓖 𝓡)))

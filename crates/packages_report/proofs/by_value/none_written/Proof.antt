@@ -1,7 +1,7 @@
--- `packages_report::report::none_written` meets its contract. Assumes nothing.
+-- `packages_report::by_value::none_written` meets its contract. Assumes nothing.
 use borrow.Author.Needs.{needs}
-use Rattle.packages_report.proofs.report.none_written.Statement.{statement}
-use Rattle.packages_report.proofs.report.none_written.Tie as tie
+use Rattle.packages_report.proofs.by_value.none_written.Statement.{statement}
+use Rattle.packages_report.proofs.by_value.none_written.Tie as tie
 
 cleared-record-requires : tie.Need-cleared-record-requires
 cleared-record-requires c κs = search needs

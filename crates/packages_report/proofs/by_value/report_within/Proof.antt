@@ -1,4 +1,4 @@
--- `packages_report::report::report_within` meets its contract: refused by 1, by 19, or with all records. Assumes nothing.
+-- `packages_report::by_value::report_within` meets its contract: refused by 1, by 19, or with all records. Assumes nothing.
 use borrow.Author.Needs.{needs}
 use mathlib.Core.Path.{_≡_, refl}
 use lib.ListN.{length}
@@ -6,8 +6,8 @@ use Rattle.base.proofs.Counted.{unmapped}
 use Rattle.base.proofs.Ladder.{told-no, told-yes}
 use Rattle.model.specs.Sound.{packagesMost}
 use Rattle.packages_report.proofs.Reported.{sound-count, refused-report, short-report, written-report}
-use Rattle.packages_report.proofs.report.report_within.Statement.{statement}
-use Rattle.packages_report.proofs.report.report_within.Tie as tie
+use Rattle.packages_report.proofs.by_value.report_within.Statement.{statement}
+use Rattle.packages_report.proofs.by_value.report_within.Tie as tie
 
 long : (c : tie.Start) → length (c .args .s .transfers .packages) ≡ packagesMost
 long c = search (needs, unmapped)

@@ -1,8 +1,8 @@
--- `packages_report::report::record_at` meets its contract: the test says which case holds. Assumes nothing.
+-- `packages_report::by_value::record_at` meets its contract: the test says which case holds. Assumes nothing.
 use borrow.Author.Needs.{needs}
 use borrow.Author.Tests.{lt-ltb, le-ltb}
-use Rattle.packages_report.proofs.report.record_at.Statement.{statement}
-use Rattle.packages_report.proofs.report.record_at.Tie as tie
+use Rattle.packages_report.proofs.by_value.record_at.Statement.{statement}
+use Rattle.packages_report.proofs.by_value.record_at.Tie as tie
 
 mul-result : tie.Need-mul-result
 mul-result c = search needs

@@ -14,18 +14,14 @@ use refusal::STAYS;
 use refusal::TABLE_FULL;
 use text::version::Version;
 ghost use mathlib.Core.Path.{_≡_};
-ghost use mathlib.Core.List.{List};
 ghost use mathlib.Core.Option.{Option};
 ghost use Prim.Native.Nat.{_≤_};
-ghost use Rattle.base.specs.Refusals.{firstRefusal, numberOrZero};
 ghost use Rattle.clusters.specs.Cluster.{Cluster as PlainCluster};
 ghost use Rattle.clusters.specs.Table as table;
 ghost use Rattle.clusters.specs.Table.{clustersMost};
 ghost use Rattle.clusters.specs.View.{viewTable};
-ghost use Rattle.actions.specs.Action.{Action as PlainAction, actionPart};
-ghost use Rattle.actions.specs.Refusals.{touched, isStaged, clusterPresent, clusterAbsent, clusterStays, oldVersion, tableFull};
-ghost use Rattle.actions.specs.Refusals.{stagedRefusals, actionRefusal};
-ghost use Rattle.actions.specs.Staged.{stagedAs};
+ghost use Rattle.actions.specs.Refusals.{isStaged, clusterPresent, clusterAbsent, clusterStays, oldVersion, tableFull};
+ghost use Rattle.actions.specs.Staged.{stagedAs, stagedRefusal, ByStaged, ByVersion, ByTouched};
 ghost use Rattle.actions.specs.View.{actionOf, viewAction};
 
 // What is looked at of the cluster that is staged under a part number: its version and mark, or that there is none.
@@ -46,7 +42,7 @@ fn is_staged(staged: Staged) -> bool
 
 // "12. ClusterPresent: install of a staged cluster."
 fn cluster_present(staged: Staged, change: Change) -> bool
-    ensures { λ r. ⌜ ((found : Option PlainCluster) (c : PlainCluster) → staged ≡ stagedAs found → r ≡ clusterPresent found (actionOf change c)) ⌝ }
+    ensures { λ r. ⌜ ByStaged staged change clusterPresent r ⌝ }
 {
     match change {
         Change::Install => is_staged(staged),
@@ -57,7 +53,7 @@ fn cluster_present(staged: Staged, change: Change) -> bool
 
 // "13. ClusterAbsent: update or remove of one not staged."
 fn cluster_absent(staged: Staged, change: Change) -> bool
-    ensures { λ r. ⌜ ((found : Option PlainCluster) (c : PlainCluster) → staged ≡ stagedAs found → r ≡ clusterAbsent found (actionOf change c)) ⌝ }
+    ensures { λ r. ⌜ ByStaged staged change clusterAbsent r ⌝ }
 {
     match change {
         Change::Install => false,
@@ -68,7 +64,7 @@ fn cluster_absent(staged: Staged, change: Change) -> bool
 
 // "21 Stays .. for remove of a cluster marked 1"
 fn cluster_stays(staged: Staged, change: Change) -> bool
-    ensures { λ r. ⌜ ((found : Option PlainCluster) (c : PlainCluster) → staged ≡ stagedAs found → r ≡ clusterStays found (actionOf change c)) ⌝ }
+    ensures { λ r. ⌜ ByStaged staged change clusterStays r ⌝ }
 {
     let Staged::At(_, stays) = staged else {
         return false;
@@ -82,7 +78,7 @@ fn cluster_stays(staged: Staged, change: Change) -> bool
 
 // "14. OldVersion: update not above the staged version."
 fn old_version(staged: Staged, change: Change, version: Version) -> bool
-    ensures { λ r. ⌜ ((found : Option PlainCluster) (c : PlainCluster) → staged ≡ stagedAs found → version ≡ c .version → r ≡ oldVersion found (actionOf change c)) ⌝ }
+    ensures { λ r. ⌜ ByVersion staged change version oldVersion r ⌝ }
 {
     let Staged::At(old, _) = staged else {
         return false;
@@ -105,10 +101,10 @@ fn table_full(count: usize, change: Change) -> bool
     }
 }
 
-// The number of the first of 12, 13, 21, 14 and 15 that applies, or 0: of a change to a version, by what is staged of the cluster and how many are
-// staged.
+// Gives the number of the first of 12, 13, 21, 14 and 15 that applies to a change to a version, or 0, by what is staged of the cluster and
+// how many are staged.
 pub fn staged_refusal(staged: Staged, count: usize, change: Change, version: Version) -> u32
-    ensures { λ r. ⌜ ((found : Option PlainCluster) (c : PlainCluster) → staged ≡ stagedAs found → version ≡ c .version → r ≡ numberOrZero (firstRefusal (stagedRefusals found count (actionOf change c)))) ⌝ }
+    ensures { λ r. ⌜ ByVersion staged change version (stagedRefusal count) r ⌝ }
 {
     if cluster_present(staged, change) {
         return CLUSTER_PRESENT;
@@ -145,7 +141,7 @@ fn staged_in(t: Table, part: u32) -> Staged
 // cluster is the caller's to say; the check of the limits of the table meets what is required.
 pub fn action_refusal(t: Table, in_list: bool, a: Action) -> u32
     requires { ⌜ t .count ≤ clustersMost ⌝ }
-    ensures { λ r. ⌜ ((listed : List PlainAction) → in_list ≡ touched (actionPart (viewAction a)) listed → r ≡ actionRefusal (viewTable t) listed (viewAction a)) ⌝ }
+    ensures { λ r. ⌜ ByTouched in_list (viewTable t) (viewAction a) r ⌝ }
 {
     if in_list {
         return CLUSTER_TOUCHED;

@@ -1,1 +1,2 @@
+pub mod ClusterInfo
 pub mod LoadsBack

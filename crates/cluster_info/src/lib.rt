@@ -14,9 +14,10 @@ ghost use Rattle.clusters.specs.Table.{tableWithin};
 ghost use Rattle.clusters.specs.View.{viewTable};
 ghost use Rattle.cluster_list.specs.Write.{writeList};
 ghost use Rattle.model.specs.Sound.{soundFor};
-ghost use Rattle.model.specs.Reading.{clusterInfo, clusterInfoReport};
+ghost use Rattle.model.specs.Reading.{clusterInfo};
 ghost use Rattle.state.specs.View.{viewState};
 ghost use Rattle.reading_reply.specs.Reply.{viewReport, reportOnSound};
+ghost use Rattle.cluster_info.specs.ClusterInfo.{modelClusterInfo};
 ghost use Rattle.cluster_info.specs.LoadsBack.{LoadsBack};
 
 // A table as a list in the lent buffer, if it has the room. The running table of a sound state is within its limits.
@@ -44,7 +45,7 @@ fn cluster_info_on_sound(s: State, store: &[u8], buffer: &mut [u8]) -> ReadingRe
 }
 
 pub fn cluster_info(s: State, store: &[u8], buffer: &mut [u8]) -> ReadingReply
-    ensures meaning { λ r. ⌜ viewReport r (now (buffer .exit)) ≡ clusterInfoReport (viewState s) (now (store .entry)) (now (buffer .entry)) ⌝ }
+    ensures meaning { λ r. ⌜ viewReport r (now (buffer .exit)) ≡ modelClusterInfo s (now (store .entry)) (now (buffer .entry)) ⌝ }
     ensures loads_back { λ r. ⌜ LoadsBack (viewState s) r (now (buffer .exit)) ⌝ }
 {
     if !sound(s, store.len()) {

@@ -1,16 +1,16 @@
 // A package's area: its text, and where its payload lies.
 ghost use mathlib.Core.Path.{_≡_};
 ghost use mathlib.Core.List.{[]};
-ghost use Prim.Native.Nat.{_+_, _<_};
+ghost use Prim.Native.Nat.{_<_};
 ghost use lib.ListN.{length};
 ghost use Rattle.clusters.specs.Cluster.{Cluster as PlainCluster, cluster};
 ghost use Rattle.clusters.specs.View.{noVersion};
 ghost use Rattle.actions.specs.View.{actionOf};
 ghost use Rattle.clusters.specs.Struct.{structCluster};
 ghost use Rattle.actions.specs.Struct.{structAction};
-ghost use Rattle.manifest.specs.Package.{packageWith, packageBehind, packageFrom, readPackage};
+ghost use Rattle.manifest.specs.Package.{packageBehind, packageFrom, readPackage};
 ghost use Rattle.package_heading.specs.Found.{plainHeading};
-ghost use Rattle.manifest.specs.Answer.{answerNumber, refusalNumber, cleared, packageRead};
+ghost use Rattle.manifest.specs.Answer.{answerNumber, refusalNumber, cleared, packageRead, PackageEnding};
 use crate::lines::NeedLine;
 use crate::lines::further_most;
 use crate::lines::is_empty_line;
@@ -96,7 +96,7 @@ fn action_of(change: Change, cluster: Cluster) -> Action
 // The package whose text ends with the empty line at a cursor. Its caller has found the LF there.
 fn package_with(s: &[u8], heading: Heading, cluster: Cluster, line: Cursor) -> PackageRead
     requires { ⌜ line .at < length (now s) ⌝ }
-    ensures { λ r. ⌜ ((plain : PlainCluster) → cluster ≡ structCluster plain → r ≡ packageRead (packageWith (now (s .entry)) (plainHeading heading) (record { cluster = plain; start = line .at + 1 }))) ⌝ }
+    ensures { λ r. ⌜ PackageEnding (now (s .entry)) heading cluster (line .at) r ⌝ }
 {
     let fields = heading.fields;
     let change = fields.change;

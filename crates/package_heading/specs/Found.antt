@@ -1,7 +1,9 @@
 -- The answer of the reader of the first value line: what each case of the enum in the code stands for.
+use Prim.Native.Nat.{ℕ}
 use mathlib.Core.Option.{Option, none, some}
 use Rattle.clusters.specs.Cluster.{cluster}
 use Rattle.cluster_list.specs.Cells.{needsFilled}
+use Rattle.package_heading.specs.declared.heading.Fields.{Fields}
 use Rattle.package_heading.specs.declared.heading.Heading.{Heading as HeadingStruct}
 use Rattle.package_heading.specs.declared.heading.HeadingRead.{HeadingRead}
 use Rattle.package_heading.specs.declared.heading.HeadingRead.the-variants as heading-read
@@ -16,3 +18,7 @@ plainHeading h =
 abbrev pub headingFound : HeadingRead → Option Heading
 headingFound (heading-read.Value h) = some (plainHeading h)
 headingFound heading-read.IllFormed = none
+
+-- what the fields cluster, payload and sum make of the first value line
+abbrev pub ofFields : Fields → (ℕ → ℕ → ℕ → Option Heading) → Option Heading
+ofFields fields f = f (fields .part) (fields .count) (fields .sum)

@@ -3,7 +3,7 @@ ghost use mathlib.Core.Path.{_≡_};
 ghost use lib.ListN.{drop};
 ghost use Rattle.actions.specs.declared.action.Change.the-variants.{Remove};
 ghost use Rattle.package_heading.specs.Heading.{onlyPart, removeHeading, clusterHeading, headingOf, payloadHeading, firstLine};
-ghost use Rattle.package_heading.specs.Found.{headingFound};
+ghost use Rattle.package_heading.specs.Found.{headingFound, ofFields};
 use crate::change::ChangeRead;
 use crate::change::change_of;
 use actions::action::Change;
@@ -64,7 +64,7 @@ fn only_part(s: &[u8], line: Cursor, columns: ClusterColumns) -> bool
 // The first value line of a remove. Its caller has taken the change apart.
 fn remove_heading(s: &[u8], line: Cursor, columns: PackageColumns, fields: Fields) -> HeadingRead
     requires { ⌜ fields .change ≡ Remove ⌝ }
-    ensures { λ r. ⌜ headingFound r ≡ removeHeading columns (drop (line .at) (now (s .entry))) (fields .part) (fields .count) (fields .sum) ⌝ }
+    ensures { λ r. ⌜ headingFound r ≡ ofFields fields (removeHeading columns (drop (line .at) (now (s .entry)))) ⌝ }
 {
     let cluster_columns = columns.cluster_columns;
     if !only_part(s, line, cluster_columns) {
@@ -82,7 +82,7 @@ fn remove_heading(s: &[u8], line: Cursor, columns: PackageColumns, fields: Field
 
 // The first value line of an install or update.
 fn cluster_heading(s: &[u8], line: Cursor, columns: PackageColumns, fields: Fields) -> HeadingRead
-    ensures { λ r. ⌜ headingFound r ≡ clusterHeading (fields .change) columns (drop (line .at) (now (s .entry))) (fields .part) (fields .count) (fields .sum) ⌝ }
+    ensures { λ r. ⌜ headingFound r ≡ ofFields fields (clusterHeading (fields .change) columns (drop (line .at) (now (s .entry)))) ⌝ }
 {
     let cluster_columns = columns.cluster_columns;
     let field = cell_at(s, line, cluster_columns.version);
@@ -101,7 +101,7 @@ fn cluster_heading(s: &[u8], line: Cursor, columns: PackageColumns, fields: Fiel
 
 // The first value line by its action.
 fn heading_of(s: &[u8], line: Cursor, columns: PackageColumns, fields: Fields) -> HeadingRead
-    ensures { λ r. ⌜ headingFound r ≡ headingOf (fields .change) columns (drop (line .at) (now (s .entry))) (fields .part) (fields .count) (fields .sum) ⌝ }
+    ensures { λ r. ⌜ headingFound r ≡ ofFields fields (headingOf (fields .change) columns (drop (line .at) (now (s .entry)))) ⌝ }
 {
     let change = fields.change;
     match change {

@@ -8,10 +8,12 @@ use Rattle.model.specs.State as model
 use Rattle.model.specs.State.{Store}
 use Rattle.model.specs.Sound.{packagesMost}
 use Rattle.model.specs.Reading.{ReadingReply, refusedBy, shortBuffer, given, Report, PackageRecord, packageRecords, reportReply}
+use Rattle.model.specs.Reading.{packagesReport}
 use Rattle.state.specs.declared.state.State.{State}
+use Rattle.state.specs.View.{viewState}
 use Rattle.packages_report.specs.declared.Record.{Record}
 use Rattle.packages_report.specs.declared.records.Records.{Records}
-use Rattle.packages_report.specs.Records.{recordOf, clearedRecord, viewRecord}
+use Rattle.packages_report.specs.Records.{recordOf, recordsOf, clearedRecord, viewRecord}
 use Rattle.reading_reply.specs.declared.ReadingReply.{ReadingReply as Reply}
 use Rattle.reading_reply.specs.declared.ReadingReply.the-variants.{Refused, ShortBuffer, Given}
 use Rattle.reading_reply.specs.Reply.{viewReport}
@@ -35,6 +37,10 @@ viewList = map viewRecord
 abbrev pub packagesGiven : Reply → List Record → Report PackageRecord
 packagesGiven answer list = viewReport answer (viewList list)
 
+-- the model's report of a state and a lent list
+abbrev pub modelPackages : State → Store → List Record → Report PackageRecord
+modelPackages s store list = packagesReport (viewState s) store (viewList list)
+
 -- ---- the report by value, which is copied into the list
 
 -- a refusal: nothing is written
@@ -45,6 +51,10 @@ abbrev pub reportWith : ReadingReply → Records → PackagesReport
 reportWith (refusedBy number) records = noneWritten (Refused number)
 reportWith (shortBuffer needed) records = noneWritten (ShortBuffer needed)
 reportWith (given count) records = record { answer = Given count; written = records }
+
+-- of a state and a store, for a list with room for so many records
+abbrev pub reportByValue : State → Store → ℕ → PackagesReport
+reportByValue s store room = reportWith (packagesReply (viewState s) store room) (recordsOf (s .transfers))
 
 -- how many of the counted records are copied into a list of a length: all where they fit, or none
 abbrev pub copiedOf : ℕ → ℕ → ℕ

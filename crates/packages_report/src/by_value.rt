@@ -11,9 +11,7 @@ use state::state::State;
 ghost use mathlib.Core.Path.{_≡_};
 ghost use lib.ListN.{length};
 ghost use Rattle.model.specs.State.{Store};
-ghost use Rattle.state.specs.View.{viewState};
-ghost use Rattle.packages_report.specs.Records.{recordsOf};
-ghost use Rattle.packages_report.specs.Packages.{copiedOf, noneWritten, recordAt, packagesReply, reportWith};
+ghost use Rattle.packages_report.specs.Packages.{copiedOf, noneWritten, recordAt, reportByValue};
 
 // The answer, and the records that are written: none where the call is refused.
 pub struct PackagesReport {
@@ -39,7 +37,7 @@ fn none_written(answer: ReadingReply) -> PackagesReport
 
 // The report of a state, for a store of a size and a list with room for so many records.
 pub fn report_within(s: State, size: usize, room: usize) -> PackagesReport
-    ensures { λ r. ⌜ ((store : Store) → length store ≡ size → r ≡ reportWith (packagesReply (viewState s) store room) (recordsOf (s .transfers))) ⌝ }
+    ensures { λ r. ⌜ ((store : Store) → length store ≡ size → r ≡ reportByValue s store room) ⌝ }
 {
     if !sound(s, size) {
         return none_written(ReadingReply::Refused(BAD_STATE));

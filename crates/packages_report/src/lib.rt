@@ -10,11 +10,10 @@ use crate::by_value::report_within;
 use reading_reply::ReadingReply;
 use state::state::State;
 ghost use mathlib.Core.Path.{_≡_};
-ghost use Rattle.model.specs.Reading.{packagesReport, reportBuffer};
-ghost use Rattle.state.specs.View.{viewState};
+ghost use Rattle.model.specs.Reading.{reportBuffer};
 ghost use Rattle.reading_reply.specs.Reply.{replyOf};
 ghost use Rattle.packages_report.specs.Records.{clearedRecord};
-ghost use Rattle.packages_report.specs.Packages.{filledFrom, listed, viewList, packagesGiven};
+ghost use Rattle.packages_report.specs.Packages.{filledFrom, listed, packagesGiven, modelPackages};
 
 pub struct Record {
     pub id: u32,
@@ -52,7 +51,7 @@ fn fill(list: &mut [Record], report: PackagesReport) -> ReadingReply
 
 // Packages: the records of all packages into the first places of a lent list, where they fit. A refusal writes nothing.
 pub fn packages(s: State, store: &[u8], list: &mut [Record]) -> ReadingReply
-    ensures meaning { λ r. ⌜ packagesGiven r (now (list .exit)) ≡ packagesReport (viewState s) (now (store .entry)) (viewList (now (list .entry))) ⌝ }
+    ensures meaning { λ r. ⌜ packagesGiven r (now (list .exit)) ≡ modelPackages s (now (store .entry)) (now (list .entry)) ⌝ }
     ensures exact { λ r. ⌜ now (list .exit) ≡ reportBuffer (replyOf r) (listed s) (now (list .entry)) ⌝ }
 {
     let size = store.len();

@@ -93,7 +93,8 @@ fn add_wave(
 ) -> Started
     requires { ⌜ ArraysFit (now parts) (now waits) size × (1 ≤ number) × (2 * reached started size ≤ length (now buffer)) ⌝ }
     ensures room { λ r. ⌜ (reached r size ≡ reached started size) × (started .count ≤ r .count) ⌝ }
-    ensures listed { λ r. ⌜ AddsWave closing (now (parts .entry)) (now (waits .entry)) size number started r (now (buffer .entry)) (now (buffer .exit)) ⌝ }
+    ensures listed { λ r. ⌜ AddsWave closing (now (parts .entry)) (now (waits .entry)) size number started r
+        (now (buffer .entry)) (now (buffer .exit)) ⌝ }
 {
     let mut waves = started.waves;
     let mut count = started.count;

@@ -6,16 +6,15 @@ use clusters::table::CLUSTERS_MOST;
 use clusters::table::Table;
 use place_in_list::Found;
 ghost use mathlib.Core.Path.{_≡_};
-ghost use mathlib.Core.Bool.{true};
 ghost use mathlib.Core.List.{map};
 ghost use Prim.Native.Nat.{_≤_, _<_};
-ghost use lib.ListN.{length, take, getElem?};
+ghost use lib.ListN.{length, take};
 ghost use Rattle.place_in_list.specs.Place.{placeOr};
 ghost use Rattle.clusters.specs.Cluster.{needsMost};
-ghost use Rattle.clusters.specs.Table.{Table as PlainTable, clustersMost, tableWithin};
+ghost use Rattle.clusters.specs.Table.{Table as PlainTable, clustersMost};
 ghost use Rattle.clusters.specs.View.{viewCluster, viewTable};
 ghost use Rattle.clusters.specs.Place.{placeAmong, partOf};
-ghost use Rattle.start_waves.specs.Waits.{waitPlace, WaitsOf};
+ghost use Rattle.start_waves.specs.Waits.{waitBy, PartsOf, WaitsOf};
 
 // A place for each need of each cluster.
 pub const WAITS_MOST: usize = CLUSTERS_MOST * NEEDS_MOST;
@@ -39,7 +38,7 @@ fn place_or_behind(parts: &[u32; CLUSTERS_MOST], count: usize, part: u32) -> usi
 // The place that the cluster at the place own waits for by its need j.
 fn wait_of(parts: &[u32; CLUSTERS_MOST], count: usize, c: Cluster, own: usize, j: usize) -> usize
     requires { ⌜ (count ≤ clustersMost) × (length (now parts) ≡ clustersMost) × (c .«need_count» ≤ needsMost) ⌝ }
-    ensures { λ r. ⌜ ((t : PlainTable) → take count (now (parts .entry)) ≡ map partOf t → r ≡ waitPlace t own (getElem? (viewCluster c .needs) j)) ⌝ }
+    ensures { λ r. ⌜ ((t : PlainTable) → take count (now (parts .entry)) ≡ map partOf t → r ≡ waitBy t own (viewCluster c) j) ⌝ }
 {
     if j >= c.need_count {
         return own;
@@ -50,7 +49,7 @@ fn wait_of(parts: &[u32; CLUSTERS_MOST], count: usize, c: Cluster, own: usize, j
 
 // The places of a table whose part numbers stand in the column. `write_waves` has these of a table within its limits.
 pub fn waits_of(t: Table, parts: &[u32; CLUSTERS_MOST]) -> Waits
-    requires { ⌜ (tableWithin (viewTable t) ≡ true) × (length (now parts) ≡ clustersMost) × (take (t .count) (now parts) ≡ map partOf (viewTable t)) ⌝ }
+    requires { ⌜ PartsOf (now parts) t ⌝ }
     ensures { λ r. ⌜ WaitsOf (r .places) (viewTable t) (t .count) ⌝ }
 {
     let mut places = [0usize; WAITS_MOST];

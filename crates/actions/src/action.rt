@@ -25,7 +25,7 @@ pub struct Action {
     pub cluster: Cluster,
 }
 
-// An action with every number 0 and no needs.
+// Makes an action with every number 0 and no needs.
 pub fn cleared_action() -> Action
     ensures { λ r. ⌜ r ≡ clearedAction ⌝ }
 {
@@ -36,7 +36,7 @@ pub fn cleared_action() -> Action
     }
 }
 
-// The table with an action applied. A table whose count does not fit is left as it is, and so is a full one by an install.
+// Applies an action to a table. A table whose count does not fit is left as it is, and so is a full one by an install.
 pub fn apply(t: Table, a: Action) -> Table
     ensures { λ r. ⌜ r ≡ apply a t ⌝ }
 {

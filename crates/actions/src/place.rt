@@ -1,4 +1,5 @@
-// Clusters put into a table, replaced and taken out. What is required of a table is met by the check of its limits.
+// Puts clusters into a table, replaces them and takes them out. Precondition of each function: the table has at most 64 clusters, and fewer
+// where one is put in; `apply` compares the count before.
 use clusters::cluster::Cluster;
 use clusters::cluster::with_mark;
 use clusters::table::Table;
@@ -11,7 +12,7 @@ ghost use Rattle.clusters.specs.View.{viewTable};
 ghost use Rattle.actions.specs.Place.{insertPlaceFrom};
 ghost use Rattle.actions.specs.Exact.{insertAt, insert, replace, closeGap, takeOut};
 
-// The place of the first cluster with a larger part number, or the place behind the last.
+// Finds the place of the first cluster with a larger part number, or the place behind the last.
 fn insert_place(t: Table, part: u32) -> usize
     requires { ⌜ t .count ≤ clustersMost ⌝ }
     ensures { λ r. ⌜ (r ≤ t .count) × (r ≡ insertPlaceFrom 0 part (viewTable t)) ⌝ }
@@ -28,7 +29,8 @@ fn insert_place(t: Table, part: u32) -> usize
     i
 }
 
-// A cluster at a place, with what stood from there on moved up by one. insert_place gives such a place.
+// Puts a cluster at a place and moves what stood from there on up by one. Precondition: also, the place is not past the count;
+// `insert_place` gives such a place.
 fn insert_at(t: Table, place: usize, c: Cluster) -> Table
     requires { ⌜ (t .count < clustersMost) × (place ≤ t .count) ⌝ }
     ensures { λ r. ⌜ r ≡ insertAt place c t ⌝ }
@@ -50,7 +52,7 @@ fn insert_at(t: Table, place: usize, c: Cluster) -> Table
     }
 }
 
-// A cluster before the first with a larger part number. Callers see before that the table is not full.
+// Puts a cluster before the first with a larger part number.
 pub fn insert(t: Table, c: Cluster) -> Table
     requires { ⌜ t .count < clustersMost ⌝ }
     ensures { λ r. ⌜ r ≡ insert c t ⌝ }
@@ -59,7 +61,7 @@ pub fn insert(t: Table, c: Cluster) -> Table
     insert_at(t, place, c)
 }
 
-// A cluster in the place of the one with its part number, whose mark it keeps.
+// Puts a cluster in the place of the one with its part number, whose mark it keeps.
 pub fn replace(t: Table, c: Cluster) -> Table
     requires { ⌜ t .count ≤ clustersMost ⌝ }
     ensures { λ r. ⌜ r ≡ replace c t ⌝ }
@@ -77,7 +79,8 @@ pub fn replace(t: Table, c: Cluster) -> Table
     }
 }
 
-// The table without the cluster at a place: what stands behind it moved down by one. find gives such a place.
+// Takes out the cluster at a place and moves what stands behind it down by one. Precondition: also, a cluster stands at the place; `find`
+// gives such a place.
 fn close_gap(t: Table, place: usize) -> Table
     requires { ⌜ (t .count ≤ clustersMost) × (place < t .count) ⌝ }
     ensures { λ r. ⌜ r ≡ closeGap place t ⌝ }
@@ -96,7 +99,7 @@ fn close_gap(t: Table, place: usize) -> Table
     }
 }
 
-// The table without the cluster with a part number.
+// Takes out the cluster with a part number.
 pub fn take_out(t: Table, part: u32) -> Table
     requires { ⌜ t .count ≤ clustersMost ⌝ }
     ensures { λ r. ⌜ r ≡ takeOut part t ⌝ }

@@ -30,7 +30,7 @@ pub enum Staged {
     Nothing,
 }
 
-// Whether there is one.
+// Says whether a cluster is staged.
 fn is_staged(staged: Staged) -> bool
     ensures { λ r. ⌜ ((found : Option PlainCluster) → staged ≡ stagedAs found → r ≡ isStaged found) ⌝ }
 {
@@ -40,7 +40,7 @@ fn is_staged(staged: Staged) -> bool
     }
 }
 
-// "12. ClusterPresent: install of a staged cluster."
+// Says whether this applies: "12. ClusterPresent: install of a staged cluster."
 fn cluster_present(staged: Staged, change: Change) -> bool
     ensures { λ r. ⌜ ByStaged staged change clusterPresent r ⌝ }
 {
@@ -51,7 +51,7 @@ fn cluster_present(staged: Staged, change: Change) -> bool
     }
 }
 
-// "13. ClusterAbsent: update or remove of one not staged."
+// Says whether this applies: "13. ClusterAbsent: update or remove of one not staged."
 fn cluster_absent(staged: Staged, change: Change) -> bool
     ensures { λ r. ⌜ ByStaged staged change clusterAbsent r ⌝ }
 {
@@ -62,7 +62,7 @@ fn cluster_absent(staged: Staged, change: Change) -> bool
     }
 }
 
-// "21 Stays .. for remove of a cluster marked 1"
+// Says whether this applies: "21 Stays .. for remove of a cluster marked 1"
 fn cluster_stays(staged: Staged, change: Change) -> bool
     ensures { λ r. ⌜ ByStaged staged change clusterStays r ⌝ }
 {
@@ -76,7 +76,7 @@ fn cluster_stays(staged: Staged, change: Change) -> bool
     }
 }
 
-// "14. OldVersion: update not above the staged version."
+// Says whether this applies: "14. OldVersion: update not above the staged version."
 fn old_version(staged: Staged, change: Change, version: Version) -> bool
     ensures { λ r. ⌜ ByVersion staged change version oldVersion r ⌝ }
 {
@@ -90,7 +90,7 @@ fn old_version(staged: Staged, change: Change, version: Version) -> bool
     }
 }
 
-// "15. TableFull: install with 64 staged."
+// Says whether this applies: "15. TableFull: install with 64 staged."
 fn table_full(count: usize, change: Change) -> bool
     ensures { λ r. ⌜ ((c : PlainCluster) → r ≡ tableFull count (actionOf change c)) ⌝ }
 {
@@ -124,7 +124,7 @@ pub fn staged_refusal(staged: Staged, count: usize, change: Change, version: Ver
     0
 }
 
-// What a table has under a part number. action_refusal passes on what it requires of the table.
+// Looks up what a table has under a part number. Precondition: the table has at most 64 clusters; `action_refusal` requires the same.
 fn staged_in(t: Table, part: u32) -> Staged
     requires { ⌜ t .count ≤ clustersMost ⌝ }
     ensures { λ r. ⌜ r ≡ stagedAs (table.find part (viewTable t)) ⌝ }
@@ -137,8 +137,9 @@ fn staged_in(t: Table, part: u32) -> Staged
     Staged::At(version, cluster.stays)
 }
 
-// The number of the first of the refusals 11 to 15 and 21 of an action on a staged table, or 0. Whether the session's list has the
-// cluster is the caller's to say; the check of the limits of the table meets what is required.
+// Gives the number of the first of the refusals 11 to 15 and 21 of an action on a staged table, or 0. Whether the session's list has the
+// cluster is the caller's to say. Precondition: the table has at most 64 clusters; the staged table of a sound state does, and the examples
+// compare the count before.
 pub fn action_refusal(t: Table, in_list: bool, a: Action) -> u32
     requires { ⌜ t .count ≤ clustersMost ⌝ }
     ensures { λ r. ⌜ ByTouched in_list (viewTable t) (viewAction a) r ⌝ }

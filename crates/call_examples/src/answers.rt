@@ -1,4 +1,4 @@
-// What a call answers, printed.
+// Prints what a call answers.
 use cases::show;
 use state::answer::Answer;
 use state::answer::Answered;

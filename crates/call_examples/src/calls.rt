@@ -21,7 +21,7 @@ use transfer_exit::transfer_exit;
 use transfer_start::transfer_start;
 use work_on_payload::work;
 
-// A call that is no transfer call, by its place among the sentences.
+// Makes a call that is no transfer call, by its place among the sentences.
 fn make_session_call(s: State, store: &mut [u8], first: u32, kind: usize) -> State {
     match kind {
         5 => show_answer(process(s, store, first)),
@@ -35,7 +35,7 @@ fn make_session_call(s: State, store: &mut [u8], first: u32, kind: usize) -> Sta
     }
 }
 
-// A call by its place among the sentences.
+// Makes a call by its place among the sentences.
 fn make_call(s: State, store: &mut [u8], case: &[u8], kind: usize) -> State {
     let first = number_of(field(case, 1));
     match kind {
@@ -48,7 +48,7 @@ fn make_call(s: State, store: &mut [u8], case: &[u8], kind: usize) -> State {
     }
 }
 
-// Each of the twelve calls on a state, in the order of the sentences.
+// Makes each of the twelve calls on a state, in the order of the sentences.
 fn make_each_call(s: State, store: &mut [u8], case: &[u8]) {
     let mut kind = 1;
     while kind < 14 {
@@ -57,7 +57,7 @@ fn make_each_call(s: State, store: &mut [u8], case: &[u8]) {
     }
 }
 
-// The bytes of a payload and the answer of the call beside Payload.
+// Prints the bytes of a payload and the answer of `payload_check`.
 fn show_payload(s: State, store: &[u8], id: u32) {
     show::byte(b' ');
     show::bytes(payload::payload(s, store, id));
@@ -78,7 +78,7 @@ fn show_store(store: &[u8]) {
     }
 }
 
-// A case that leaves the state as it is.
+// Plays a case that leaves the state as it is.
 fn show_case(s: State, store: &mut [u8], case: &[u8], kind: usize) {
     match kind {
         14 => show_payload(s, store, number_of(field(case, 1))),
@@ -89,7 +89,7 @@ fn show_case(s: State, store: &mut [u8], case: &[u8], kind: usize) {
     }
 }
 
-// A case by its sentence, printed before what it gives.
+// Plays a case by its sentence, which is printed before what the case gives.
 pub fn make_case(s: State, store: &mut [u8], case: &[u8]) -> State {
     let sentence = field(case, 0);
     show::with_fields(sentence, case);

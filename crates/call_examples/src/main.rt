@@ -11,7 +11,7 @@ use clusters::table::empty_table;
 use libc::STDIN_FILENO;
 use state::state::loaded_state;
 
-// Each case, from behind its `#` to the next.
+// Plays each case, from behind its `#` to the next.
 fn make_calls(input: &[u8], store: &mut [u8]) {
     let mut s = loaded_state(empty_table(), 1);
     let mut at = 0;

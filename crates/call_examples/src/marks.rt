@@ -44,7 +44,7 @@ fn marked_work(work: Work) -> Work {
     w
 }
 
-// The state with the mark at a place set: the table's 0, the listed action's 1, the kept action's any other.
+// Sets the mark at a place of a state: the table's 0, the listed action's 1, the kept action's any other.
 pub fn marked(s: State, place: u32) -> State {
     let mut v = s;
     if 1 < place {

@@ -121,7 +121,7 @@ fn wrong_parts(s: State, change: u32) -> State {
     v
 }
 
-// The state with the change of a number.
+// Makes a state unsound, by the change that a number names.
 pub fn made_unsound(s: State, change: u32) -> State {
     match change {
         20 => in_phase(s, Phase::Ready),

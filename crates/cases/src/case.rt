@@ -4,7 +4,7 @@ ghost use Prim.Native.Nat.{_≤_};
 ghost use lib.ListN.{length};
 use text::word::is_word;
 
-// Where field number k of a case begins, counted from 0; the end where there is none.
+// Finds where field number k of a case begins, counted from 0; the end where there is none.
 fn field_start(case: &[u8], k: usize) -> usize
     ensures { λ r. ⌜ r ≤ length (now (case .entry)) ⌝ }
 {
@@ -22,14 +22,14 @@ fn field_start(case: &[u8], k: usize) -> usize
     i
 }
 
-// Field number k of a case, counted from 0.
+// Gives field number k of a case, counted from 0.
 pub fn field(case: &[u8], k: usize) -> &[u8] {
     let from = field_start(case, k);
     let to = bytes::scan::find(case, from, case.len(), b';');
     &case[from..to]
 }
 
-// The place of a sentence among the first sentences of a text, each with `;` behind it, or their number.
+// Finds the place of a sentence among the first sentences of a text, each with `;` behind it, or gives their number.
 pub fn kind_of(sentence: &[u8], sentences: &[u8], number: usize) -> usize {
     let mut k = 0;
     while k < number {

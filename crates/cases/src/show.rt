@@ -1,4 +1,4 @@
-// Printing to standard output.
+// Prints to standard output.
 use crate::case::field;
 use libc::STDOUT_FILENO;
 
@@ -19,14 +19,14 @@ pub fn count(n: usize) {
     io::print_decimal(STDOUT_FILENO, n as u64);
 }
 
-// How many bytes there are.
+// Prints how many bytes there are.
 pub fn length(n: usize) {
     byte(b' ');
     count(n);
     bytes(b" bytes");
 }
 
-// A sentence with the fields of a case behind the first, one for each `%`.
+// Prints a sentence with the fields of a case behind the first, one for each `%`.
 pub fn with_fields(sentence: &[u8], case: &[u8]) {
     let mut k = 1;
     let mut i = 0;
@@ -42,7 +42,7 @@ pub fn with_fields(sentence: &[u8], case: &[u8]) {
     }
 }
 
-// Here and below: an answer that ends its line.
+// Here and below: prints an answer that ends its line.
 pub fn value(n: u32) {
     byte(b' ');
     number(n);

@@ -6,7 +6,7 @@ use text::version::Version;
 use text::version::VersionRead;
 use text::version::whole_version;
 
-// The number that a text is, or 0.
+// Gives the number that a text is, or 0.
 pub fn number_of(s: &[u8]) -> u32 {
     let Number::Value(value, _) = whole_number(s, 4294967295) else {
         return 0;
@@ -14,7 +14,7 @@ pub fn number_of(s: &[u8]) -> u32 {
     value
 }
 
-// The version that a text is, or 0.0.0.0.
+// Gives the version that a text is, or 0.0.0.0.
 pub fn version_of(s: &[u8]) -> Version {
     let VersionRead::Value(version, _) = whole_version(s) else {
         return NO_VERSION;

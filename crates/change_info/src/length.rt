@@ -1,4 +1,4 @@
-// How many bytes the changes of a session have as text.
+// Counts the bytes of the changes of a session as text.
 use actions::action::Action;
 use actions::action::Change;
 use state::session::Session;
@@ -23,7 +23,7 @@ fn word_length(a: Action) -> usize
     }
 }
 
-// The line of an action: part number and word, the comma between them and the LF.
+// Counts the bytes of the line of an action: part number and word, the comma between them and the LF.
 fn change_length(a: Action) -> usize
     ensures { λ r. ⌜ r ≡ length (changeLine (viewAction a)) ⌝ }
 {
@@ -31,7 +31,8 @@ fn change_length(a: Action) -> usize
     number_length(cluster.part) + word_length(a) + 2
 }
 
-// The names line and the lines of the listed actions. A sound state meets what is required.
+// Counts the bytes of the names line and the lines of the listed actions. Precondition: at most 16 actions are listed, and the text has at
+// most 319 bytes; `report_changes` requires the same.
 pub fn changes_length(session: Session) -> usize
     requires { ⌜ (session .count ≤ entriesMost) × (length (changesText session) ≤ changeInfoMost) ⌝ }
     ensures { λ r. ⌜ r ≡ length (changesText session) ⌝ }

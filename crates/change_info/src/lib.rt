@@ -19,7 +19,8 @@ ghost use Rattle.state.specs.View.{entriesMost, viewState};
 ghost use Rattle.reading_reply.specs.Reply.{viewReport, reportOnSound};
 ghost use Rattle.change_info.specs.Changes.{changesText};
 
-// The changes in the lent buffer, if it has the room. A sound state meets what is required.
+// Writes the changes into the lent buffer, if it has the room. Precondition: at most 16 actions are listed, and the text has at most 319
+// bytes; `change_info_on_sound` requires a sound state, whose session is such.
 fn report_changes(session: Session, buffer: &mut [u8]) -> ReadingReply
     requires { ⌜ (session .count ≤ entriesMost) × (length (changesText session) ≤ changeInfoMost) ⌝ }
     ensures { λ r. ⌜ viewReport r (now (buffer .exit)) ≡ reportOnSound (changesText session) (now (buffer .entry)) ⌝ }
@@ -32,7 +33,7 @@ fn report_changes(session: Session, buffer: &mut [u8]) -> ReadingReply
     ReadingReply::Given(written)
 }
 
-// ChangeInfo of a state that is known to be sound, which `change_info` checks.
+// Answers ChangeInfo. Precondition: the state is sound; `change_info` checks that before.
 fn change_info_on_sound(s: State, store: &[u8], buffer: &mut [u8]) -> ReadingReply
     requires { ⌜ soundFor (viewState s) (length (now store)) ≡ true ⌝ }
     ensures { λ r. ⌜ viewReport r (now (buffer .exit)) ≡ reportOnSound (changeInfo (viewState s)) (now (buffer .entry)) ⌝ }

@@ -1,4 +1,5 @@
-// The changes of a session written as text. Callers meet the `requires` from the room for the whole, known beforehand.
+// Writes the changes of a session as text. Precondition of each function: the text fits into the buffer from the place on, and at most 16
+// actions are listed; `report_changes` compares the length of the whole, known beforehand, with the buffer's, and requires the other.
 use actions::action::Action;
 use actions::action::Change;
 use state::session::Session;
@@ -12,7 +13,7 @@ ghost use Rattle.model.specs.Reading.{changeWord, changeLines};
 ghost use Rattle.state.specs.View.{entriesMost};
 ghost use Rattle.change_info.specs.Changes.{changeLine, listedActions, changesText};
 
-// "Added, Updated or Removed"
+// Puts the word of an action: "Added, Updated or Removed".
 fn put_word(buffer: &mut [u8], at: usize, a: Action) -> usize
     requires { ⌜ at + length (changeWord (viewAction a)) ≤ length (now buffer) ⌝ }
     ensures { λ r. ⌜ Put (now (buffer .entry)) at (changeWord (viewAction a)) r (now (buffer .exit)) ⌝ }
@@ -25,7 +26,7 @@ fn put_word(buffer: &mut [u8], at: usize, a: Action) -> usize
     }
 }
 
-// The line of an action.
+// Puts the line of an action.
 fn put_change(buffer: &mut [u8], at: usize, a: Action) -> usize
     requires { ⌜ at + length (changeLine (viewAction a)) ≤ length (now buffer) ⌝ }
     ensures { λ r. ⌜ Put (now (buffer .entry)) at (changeLine (viewAction a)) r (now (buffer .exit)) ⌝ }
@@ -38,7 +39,7 @@ fn put_change(buffer: &mut [u8], at: usize, a: Action) -> usize
     behind_word + 1
 }
 
-// The lines of the listed actions.
+// Puts the lines of the listed actions.
 fn put_changes(buffer: &mut [u8], from: usize, session: Session) -> usize
     requires { ⌜ (session .count ≤ entriesMost) × (from + length (changeLines (listedActions session)) ≤ length (now buffer)) ⌝ }
     ensures { λ r. ⌜ Put (now (buffer .entry)) from (changeLines (listedActions session)) r (now (buffer .exit)) ⌝ }
@@ -54,8 +55,7 @@ fn put_changes(buffer: &mut [u8], from: usize, session: Session) -> usize
     at
 }
 
-// The changes at the start of the buffer; gives their length. `report_changes` compares it with the buffer's before; a sound state meets
-// the limit of the entries.
+// Writes the changes at the start of the buffer and gives their length.
 pub fn write_changes(buffer: &mut [u8], session: Session) -> usize
     requires { ⌜ (session .count ≤ entriesMost) × (length (changesText session) ≤ length (now buffer)) ⌝ }
     ensures { λ r. ⌜ Put (now (buffer .entry)) 0 (changesText session) r (now (buffer .exit)) ⌝ }

@@ -14,7 +14,7 @@ pub struct Sums {
 // "sum 0 to 65,535": the largest sum that a package may declare, the one place in the code that has this limit.
 pub const SUM_MOST: u32 = 65535;
 
-// The pair that a sum starts with.
+// Gives the pair that a sum starts with.
 pub fn start() -> Sums
     ensures { λ r. ⌜ r ≡ startSums ⌝ }
 {
@@ -60,9 +60,10 @@ const REMAINDERS: [u8; 510] = [
     240, 241, 242, 243, 244, 245, 246, 247, 248, 249, 250, 251, 252, 253, 254, // 495 to 509
 ];
 
-// The remainder by 255 of a running sum plus what is added to it: entry `sum` of the part of the table that starts at entry
-// `added`. What is added is known before the running sum is, so the next running sum waits for one read and no addition.
-// `add_byte` meets both: it hands on the table that it is lent, and adds a byte or a running sum to a running sum.
+// Reads the remainder by 255 of a running sum plus what is added to it: entry `sum` of the part of the table that starts at entry `added`.
+// What is added is known before the running sum is, so the next running sum waits for one read and no addition. Precondition: the table is
+// that of the remainders, and the two add up to at most 509; `add_byte` hands on the table that it is lent, and adds a byte or a running
+// sum to a running sum.
 fn remainder_255(table: &[u8], sum: u32, added: u32) -> u32
     requires { ⌜ (isRemainderTable (now table) ≡ true) × (sum + added ≤ 509) ⌝ }
     ensures { λ r. ⌜ r ≡ (sum + added) % 255 ⌝ }
@@ -71,7 +72,8 @@ fn remainder_255(table: &[u8], sum: u32, added: u32) -> u32
     part[sum as usize] as u32
 }
 
-// The pair after one more byte. `add_bytes` lends the table, and keeps the pair within the limit.
+// Gives the pair after one more byte. Precondition: the table is that of the remainders, and both running sums are at most 254; `add_bytes`
+// lends its copy of the constant, and each byte leaves the pair within the limit.
 fn add_byte(table: &[u8], sums: Sums, byte: u8) -> Sums
     requires { ⌜ (isRemainderTable (now table) ≡ true) × (sumsWithin sums ≡ true) ⌝ }
     ensures { λ r. ⌜ r ≡ step sums byte ⌝ }
@@ -81,8 +83,9 @@ fn add_byte(table: &[u8], sums: Sums, byte: u8) -> Sums
     Sums { c0: c0, c1: c1 }
 }
 
-// The pair after the bytes of a part. `continue_sum` meets the limit. The table is copied before the first byte: read from the
-// constant, it would be built anew at each. No bytes need none, and a part of one byte has an empty half.
+// Gives the pair after the bytes of a part. The table is copied before the first byte: read from the constant, it would be built anew at
+// each. No bytes need no table; a part of one byte has an empty half. Precondition: both running sums are at most 254; `continue_sum`
+// requires the same, and the first half leaves the pair within the limit.
 fn add_bytes(sums: Sums, part: &[u8]) -> Sums
     requires { ⌜ sumsWithin sums ≡ true ⌝ }
     ensures { λ r. ⌜ r ≡ continued sums (now (part .entry)) ⌝ }
@@ -100,9 +103,9 @@ fn add_bytes(sums: Sums, part: &[u8]) -> Sums
     so_far
 }
 
-// The pair continued over a part of the payload. Who holds a pair meets the limit: `start` gives a pair within it, this
-// function keeps it, and a sound state has no other. A call for each half keeps the table in `add_bytes`: a function that is
-// called once is compiled into its caller, and the table amid a Work makes the compiler copy parts of the State there.
+// Continues the pair over a part of the payload. A call for each half keeps the table in `add_bytes`: a function that is called once is
+// compiled into its caller, and the table amid a Work makes the compiler copy parts of the State there. Precondition: both running sums are
+// at most 254; `start` gives such a pair, this function keeps it so, and a sound state has no other.
 pub fn continue_sum(sums: Sums, part: &[u8]) -> Sums
     requires { ⌜ sumsWithin sums ≡ true ⌝ }
     ensures { λ r. ⌜ r ≡ continued sums (now (part .entry)) ⌝ }
@@ -112,7 +115,7 @@ pub fn continue_sum(sums: Sums, part: &[u8]) -> Sums
     add_bytes(so_far, &part[half..])
 }
 
-// The pair as one number. Who holds a pair meets the limit, as for `continue_sum`.
+// Gives the pair as one number. Precondition: both running sums are at most 254, as for `continue_sum`.
 pub fn number(sums: Sums) -> u32
     requires { ⌜ sumsWithin sums ≡ true ⌝ }
     ensures { λ r. ⌜ r ≡ sumNumber sums ⌝ }

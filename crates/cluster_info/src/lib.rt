@@ -20,7 +20,8 @@ ghost use Rattle.reading_reply.specs.Reply.{viewReport, reportOnSound};
 ghost use Rattle.cluster_info.specs.ClusterInfo.{modelClusterInfo};
 ghost use Rattle.cluster_info.specs.LoadsBack.{LoadsBack};
 
-// A table as a list in the lent buffer, if it has the room. The running table of a sound state is within its limits.
+// Writes a table as a list into the lent buffer, if it has the room. Precondition: the table is within its limits; the running table of a
+// sound state is.
 fn report_table(table: Table, buffer: &mut [u8]) -> ReadingReply
     requires { ⌜ tableWithin (viewTable table) ≡ true ⌝ }
     ensures { λ r. ⌜ viewReport r (now (buffer .exit)) ≡ reportOnSound (writeList (viewTable table)) (now (buffer .entry)) ⌝ }
@@ -33,7 +34,7 @@ fn report_table(table: Table, buffer: &mut [u8]) -> ReadingReply
     ReadingReply::Given(written)
 }
 
-// ClusterInfo of a state that is known to be sound, which `cluster_info` checks.
+// Answers ClusterInfo. Precondition: the state is sound; `cluster_info` checks that before.
 fn cluster_info_on_sound(s: State, store: &[u8], buffer: &mut [u8]) -> ReadingReply
     requires { ⌜ soundFor (viewState s) (length (now store)) ≡ true ⌝ }
     ensures { λ r. ⌜ viewReport r (now (buffer .exit)) ≡ reportOnSound (clusterInfo (viewState s)) (now (buffer .entry)) ⌝ }

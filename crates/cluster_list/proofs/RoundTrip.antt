@@ -1,7 +1,7 @@
--- Reading what was written gives the same table, cell by cell: a field, a line, the lines of a cluster's needs, the lines of the
+-- Reading a list that was written gives back the table, cell by cell: a field, a line, the lines of a cluster's needs, the lines of the
 -- clusters. The clusters are read one behind the other, and `front` is what was read before them. The list has the four names or the
 -- five, and the first need of a cluster stands on its line, as our writer puts it, or below it as the others do: one law for all.
--- Assumes nothing.
+-- In a list of four names every mark is read as 0. Assumes nothing.
 use Prim.Native.Nat.{ℕ, zero, suc, _+_, _≤_, _<_}
 use mathlib.Core.Path.{_≡_, refl, ap, _∙_}
 use mathlib.Core.Bool.{Bool, true, false}
@@ -376,6 +376,6 @@ pub form-back : (form : Form) (t : Table) → tableWithin t ≡ true → readLis
 unfolding listText
 form-back form t h = rw (writer-table form t) (list-with-back form 1 (omega arith) t h)
 
--- "for every table within the limits, reading what was written gives the same table"
+-- what our writer writes of a table within the limits is read as the same table: "A written list must still load as the same table."
 pub list-back : (t : Table) → tableWithin t ≡ true → readList (writeList t) ≡ some t
 list-back t h = form-back fiveNames t h

@@ -29,7 +29,7 @@ pub enum NeedRead {
     IllFormed,
 }
 
-// A field that is a part number, which is at least 1.
+// Reads a field that is a part number, which is at least 1.
 pub fn part_field(field: &[u8]) -> Number
     ensures { λ r. ⌜ r ≡ partField (now (field .entry)) ⌝ }
 {
@@ -42,7 +42,7 @@ pub fn part_field(field: &[u8]) -> Number
     Number::Value(part, next)
 }
 
-// The need that the fields needs and least say.
+// Reads the need that the fields needs and least say.
 pub fn need_of(needs: &[u8], least: &[u8]) -> NeedRead
     ensures { λ r. ⌜ r ≡ needOf (now (needs .entry)) (now (least .entry)) ⌝ }
 {
@@ -65,7 +65,7 @@ pub fn need_of(needs: &[u8], least: &[u8]) -> NeedRead
     NeedRead::Value(OptionalNeed::Filled(need), next)
 }
 
-// The fields needs and least of the line at a cursor.
+// Reads the fields needs and least of the line at a cursor.
 pub fn need_fields(s: &[u8], line: Cursor, columns: ClusterColumns) -> NeedRead
     ensures { λ r. ⌜ r ≡ needFields columns (drop (line .at) (now (s .entry))) ⌝ }
 {
@@ -75,7 +75,7 @@ pub fn need_fields(s: &[u8], line: Cursor, columns: ClusterColumns) -> NeedRead
     )
 }
 
-// A cluster with the need that stands on its line, or without one. Its unused places are cleared.
+// Makes a cluster with the need that stands on its line, or without one. Its unused places are cleared.
 pub fn cluster_with(part: u32, version: Version, need: OptionalNeed) -> Cluster
     ensures { λ r. ⌜ r ≡ structCluster (cluster part version (needsFilled need)) ⌝ }
 {

@@ -1,4 +1,5 @@
-// The cluster list: its text read into a table, the fields that a package has too, and how long a list can be.
+// The cluster list: reads its text into a table, reads the fields that the text of a package has too, and gives the lengths of the longest
+// lists.
 pub mod cells;
 pub mod limits;
 mod mark;

@@ -9,7 +9,7 @@ use text::cursor::Cursor;
 use text::number::Number;
 use text::number::whole_number;
 
-// The commas of every line: a line has as many fields as there are names.
+// Gives the number of commas of every line: a line has as many fields as there are names.
 pub fn commas_of(stays: Column) -> usize
     ensures { λ r. ⌜ r ≡ commasOf stays ⌝ }
 {
@@ -19,7 +19,7 @@ pub fn commas_of(stays: Column) -> usize
     }
 }
 
-// The mark of the line at a cursor, which begins a cluster: 0 or 1, and 0 in a list of four names.
+// Reads the mark of the line at a cursor, which begins a cluster: 0 or 1, and 0 in a list of four names.
 pub fn mark_field(s: &[u8], line: Cursor, stays: Column) -> Number
     ensures { λ r. ⌜ r ≡ markField stays (drop (line .at) (now (s .entry))) ⌝ }
 {
@@ -29,7 +29,7 @@ pub fn mark_field(s: &[u8], line: Cursor, stays: Column) -> Number
     whole_number(cell_at(s, line, k), 1)
 }
 
-// Whether the line at a cursor, which adds a need, leaves the mark empty.
+// Says whether the line at a cursor, which adds a need, leaves the mark empty.
 pub fn no_mark(s: &[u8], line: Cursor, stays: Column) -> bool
     ensures { λ r. ⌜ r ≡ noMark stays (drop (line .at) (now (s .entry))) ⌝ }
 {

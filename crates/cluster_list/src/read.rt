@@ -1,4 +1,4 @@
-// Reading a cluster list. The table is built from the empty one, so it is known whole, unused places included.
+// Reads a cluster list. The table is built from the empty one, so it is known whole, unused places included.
 ghost use mathlib.Core.Path.{_≡_};
 ghost use mathlib.Core.List.{[]};
 ghost use mathlib.Core.Option.{none};
@@ -60,7 +60,8 @@ fn ill_formed() -> ListRead
     }
 }
 
-// The part number of the last cluster, and 0 of no cluster. Here and below the table is one that reading has built.
+// Gives the part number of the last cluster, and 0 of no cluster. Precondition, here and below: the table is within its limits and its
+// unused places are cleared; `value_lines` begins with the empty table, and each line gives such a table.
 fn last_part(table: Table) -> u32
     requires { ⌜ Built table ⌝ }
     ensures { λ r. ⌜ r ≡ lastPart (viewTable table) ⌝ }
@@ -73,8 +74,8 @@ fn last_part(table: Table) -> u32
     last.part
 }
 
-// A cluster behind the last: at most 64, and with a part number above that of the last. begin_cluster makes the cluster, so that its
-// unused places are cleared.
+// Puts a cluster behind the last: at most 64, and with a part number above that of the last. Precondition: also, the unused places of the
+// cluster are cleared; `begin_cluster` makes it so.
 fn add_cluster(table: Table, c: Cluster) -> ListRead
     requires { ⌜ Built table × (c ≡ structCluster (viewCluster c)) ⌝ }
     ensures { λ r. ⌜ r ≡ listRead (clusterAdded (viewTable table) (viewCluster c)) ⌝ }
@@ -92,7 +93,7 @@ fn add_cluster(table: Table, c: Cluster) -> ListRead
     }
 }
 
-// A need behind those of the last cluster: at most 4.
+// Puts a need behind those of the last cluster: at most 4.
 fn add_need(table: Table, n: Need) -> ListRead
     requires { ⌜ Built table ⌝ }
     ensures { λ r. ⌜ r ≡ listRead (needAdded (viewTable table) n) ⌝ }
@@ -112,7 +113,7 @@ fn add_need(table: Table, n: Need) -> ListRead
     }
 }
 
-// A line with cluster and version empty: a need of the cluster above it, and no mark.
+// Reads a line with cluster and version empty: a need of the cluster above it, and no mark.
 fn need_line(s: &[u8], line: Cursor, columns: ListColumns, table: Table) -> ListRead
     requires { ⌜ Built table ⌝ }
     ensures { λ r. ⌜ r ≡ listRead (needLine columns (drop (line .at) (now (s .entry))) (viewTable table)) ⌝ }
@@ -130,7 +131,7 @@ fn need_line(s: &[u8], line: Cursor, columns: ListColumns, table: Table) -> List
     add_need(table, further)
 }
 
-// The cluster of a line's fields, with its unused places cleared.
+// Makes the cluster of a line's fields, with its unused places cleared.
 fn marked_cluster(part: u32, version: Version, need: OptionalNeed, mark: u32) -> Cluster
     ensures { λ r. ⌜ r ≡ structCluster (markedCluster part version (needsFilled need) (eqb mark 1)) ⌝ }
 {
@@ -138,7 +139,7 @@ fn marked_cluster(part: u32, version: Version, need: OptionalNeed, mark: u32) ->
     with_mark(begun, mark == 1)
 }
 
-// The cluster that a line begins, with its first need or without one, and with the mark of the line.
+// Reads the need, or none, and the mark of a line that begins a cluster, and puts the cluster behind the last.
 fn begin_cluster(
     s: &[u8],
     line: Cursor,
@@ -160,7 +161,7 @@ fn begin_cluster(
     add_cluster(table, marked_cluster(part, version, need, mark))
 }
 
-// A line that begins a cluster: its part number and version, and then what begin_cluster reads of it.
+// Reads a line that begins a cluster: its part number and version, and then what `begin_cluster` reads of it.
 fn cluster_line(s: &[u8], line: Cursor, columns: ListColumns, table: Table) -> ListRead
     requires { ⌜ Built table ⌝ }
     ensures { λ r. ⌜ r ≡ listRead (clusterLine columns (drop (line .at) (now (s .entry))) (viewTable table)) ⌝ }
@@ -175,7 +176,7 @@ fn cluster_line(s: &[u8], line: Cursor, columns: ListColumns, table: Table) -> L
     begin_cluster(s, line, columns, table, part, version)
 }
 
-// The value line at a cursor.
+// Reads the value line at a cursor.
 fn value_line(s: &[u8], line: Cursor, columns: ListColumns, table: Table) -> ListRead
     requires { ⌜ Built table ⌝ }
     ensures { λ r. ⌜ r ≡ listRead (valueLine columns (drop (line .at) (now (s .entry))) (viewTable table)) ⌝ }
@@ -190,7 +191,7 @@ fn value_line(s: &[u8], line: Cursor, columns: ListColumns, table: Table) -> Lis
     need_line(s, line, columns, table)
 }
 
-// The value lines from a cursor to the end.
+// Reads the value lines from a cursor to the end.
 fn value_lines(s: &[u8], from: Cursor, columns: ListColumns) -> ListRead
     ensures { λ r. ⌜ r ≡ listRead (valueLines (length (now (s .entry))) columns (now (s .entry)) (from .at) []) ⌝ }
 {
@@ -217,7 +218,7 @@ fn value_lines(s: &[u8], from: Cursor, columns: ListColumns) -> ListRead
     }
 }
 
-// A cluster list: the names line, then the value lines.
+// Reads a cluster list: the names line, then the value lines.
 fn list_at_start(s: &[u8]) -> ListRead
     ensures { λ r. ⌜ r ≡ listRead (readList (now (s .entry))) ⌝ }
 {
@@ -227,7 +228,7 @@ fn list_at_start(s: &[u8]) -> ListRead
     value_lines(s, next, columns)
 }
 
-// The table that a list says, or ill-formed.
+// Reads the table that a list says, or finds the list ill-formed.
 pub fn read_list(s: &[u8]) -> ListRead
     ensures meaning { λ r. ⌜ tableRead r ≡ readList (now (s .entry)) ⌝ }
     ensures exact { λ r. ⌜ r ≡ listRead (readList (now (s .entry))) ⌝ }

@@ -1,4 +1,4 @@
-// How many bytes a table has as a list.
+// Counts the bytes of a table as a list.
 ghost use mathlib.Core.Path.{_≡_};
 ghost use mathlib.Core.Bool.{true};
 ghost use mathlib.Core.List.{[], _∷_};
@@ -15,15 +15,15 @@ use clusters::table::Table;
 use text::write::number_length;
 use text::write::version_length;
 
-// The fields needs and least of a need, a comma behind each.
+// Counts the bytes of the fields needs and least of a need, a comma behind each.
 fn need_length(n: Need) -> usize
     ensures { λ r. ⌜ r ≡ length (fieldsText (needCells (n ∷ []))) ⌝ }
 {
     number_length(n.part) + version_length(n.least) + 2
 }
 
-// The same of the first need of a cluster, or of two empty fields. Here and below the limits of the table meet what is required of
-// a cluster.
+// Counts the same of the first need of a cluster, or of two empty fields. Precondition: the cluster has at most 4 needs; `cluster_length`
+// requires a cluster within its limits.
 fn first_need_length(c: Cluster) -> usize
     requires { ⌜ c .«need_count» ≤ 4 ⌝ }
     ensures { λ r. ⌜ r ≡ length (fieldsText (needCells (viewCluster c .needs))) ⌝ }
@@ -35,7 +35,8 @@ fn first_need_length(c: Cluster) -> usize
     need_length(n)
 }
 
-// The lines of the needs behind the first, each with two empty fields in front, and LF behind the empty mark.
+// Counts the bytes of the lines of the needs behind the first, each with two empty fields in front, and LF behind the empty mark.
+// Precondition: the cluster is within its limits; `cluster_length` requires the same.
 fn need_lines_length(c: Cluster) -> usize
     requires { ⌜ clusterWithin (viewCluster c) ≡ true ⌝ }
     ensures { λ r. ⌜ r ≡ length (needLinesText fiveNames (drop 1 (viewCluster c .needs))) ⌝ }
@@ -51,7 +52,8 @@ fn need_lines_length(c: Cluster) -> usize
     total
 }
 
-// The lines of a cluster. Its part number and its version have a comma behind each, and its mark is one byte with LF behind it.
+// Counts the bytes of the lines of a cluster. Its part number and its version have a comma behind each, and its mark is one byte with LF
+// behind it. Precondition: the cluster is within its limits; `list_length` requires a table within its limits.
 fn cluster_length(c: Cluster) -> usize
     requires { ⌜ clusterWithin (viewCluster c) ≡ true ⌝ }
     ensures { λ r. ⌜ r ≡ length (clusterLines fiveNames (viewCluster c)) ⌝ }
@@ -63,7 +65,7 @@ fn cluster_length(c: Cluster) -> usize
         + need_lines_length(c)
 }
 
-// The list. The table is within its limits: one that was read is, and so are those of a sound state.
+// Counts the bytes of the list. Precondition: the table is within its limits; one that was read is, and so are those of a sound state.
 pub fn list_length(t: Table) -> usize
     requires { ⌜ tableWithin (viewTable t) ≡ true ⌝ }
     ensures { λ r. ⌜ r ≡ length (writeList (viewTable t)) ⌝ }

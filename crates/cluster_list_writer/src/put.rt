@@ -1,4 +1,5 @@
-// The parts of a list, each put at a place of a lent buffer. Their callers meet the `requires` from the room for the whole list.
+// Puts the parts of a list, each at a place of a lent buffer. Precondition of each function: the part fits into the buffer from the place
+// on, and a cluster has at most 4 needs; `write_list` requires room for the whole list and a table within its limits.
 ghost use mathlib.Core.Path.{_≡_};
 ghost use mathlib.Core.List.{[], _∷_};
 ghost use Prim.Native.Nat.{_+_, _≤_};
@@ -15,7 +16,7 @@ use text::version::Version;
 use text::write::put_number;
 use text::write::put_version;
 
-// Two bytes.
+// Puts two bytes.
 fn put_two(buf: &mut [u8], at: usize, first: u8, second: u8) -> usize
     requires { ⌜ at + 2 ≤ length (now buf) ⌝ }
     ensures { λ r. ⌜ Put (now (buf .entry)) at (first ∷ second ∷ []) r (now (buf .exit)) ⌝ }
@@ -25,7 +26,7 @@ fn put_two(buf: &mut [u8], at: usize, first: u8, second: u8) -> usize
     at + 2
 }
 
-// A part number and a version, a comma behind each.
+// Puts a part number and a version, a comma behind each.
 fn put_pair(buf: &mut [u8], at: usize, part: u32, version: Version) -> usize
     requires { ⌜ at + length (fieldsText (digits part ∷ versionText version ∷ [])) ≤ length (now buf) ⌝ }
     ensures { λ r. ⌜ Put (now (buf .entry)) at (fieldsText (digits part ∷ versionText version ∷ [])) r (now (buf .exit)) ⌝ }
@@ -37,7 +38,7 @@ fn put_pair(buf: &mut [u8], at: usize, part: u32, version: Version) -> usize
     behind_version + 1
 }
 
-// The fields needs and least of a cluster's line, a comma behind each: those of its first need, or two empty ones.
+// Puts the fields needs and least of a cluster's line, a comma behind each: those of its first need, or two empty ones.
 fn put_first_need(buf: &mut [u8], at: usize, c: Cluster) -> usize
     requires { ⌜ (c .«need_count» ≤ 4) × (at + length (fieldsText (needCells (viewCluster c .needs))) ≤ length (now buf)) ⌝ }
     ensures { λ r. ⌜ Put (now (buf .entry)) at (fieldsText (needCells (viewCluster c .needs))) r (now (buf .exit)) ⌝ }
@@ -49,7 +50,7 @@ fn put_first_need(buf: &mut [u8], at: usize, c: Cluster) -> usize
     put_pair(buf, at, n.part, n.least)
 }
 
-// The byte of a mark.
+// Gives the byte of a mark.
 fn mark_byte(stays: bool) -> u8
     ensures { λ r. ⌜ r ∷ [] ≡ markText stays ⌝ }
 {
@@ -59,7 +60,7 @@ fn mark_byte(stays: bool) -> u8
     b'0'
 }
 
-// The line that a cluster begins with. Its mark is the last field.
+// Puts the line that a cluster begins with. Its mark is the last field.
 fn put_first_line(buf: &mut [u8], at: usize, c: Cluster) -> usize
     requires { ⌜ (c .«need_count» ≤ 4) × (at + length (firstLine (viewCluster c)) ≤ length (now buf)) ⌝ }
     ensures { λ r. ⌜ Put (now (buf .entry)) at (firstLine (viewCluster c)) r (now (buf .exit)) ⌝ }
@@ -70,7 +71,7 @@ fn put_first_line(buf: &mut [u8], at: usize, c: Cluster) -> usize
     put_two(buf, behind_need, mark, b'\n')
 }
 
-// The line of a need behind the first. Its last field, the mark, is empty.
+// Puts the line of a need behind the first. Its last field, the mark, is empty.
 fn put_need_line(buf: &mut [u8], at: usize, n: Need) -> usize
     requires { ⌜ at + length (needLineText fiveNames n) ≤ length (now buf) ⌝ }
     ensures { λ r. ⌜ Put (now (buf .entry)) at (needLineText fiveNames n) r (now (buf .exit)) ⌝ }
@@ -81,7 +82,7 @@ fn put_need_line(buf: &mut [u8], at: usize, n: Need) -> usize
     behind_need + 1
 }
 
-// The lines of the needs behind the first.
+// Puts the lines of the needs behind the first.
 fn put_need_lines(buf: &mut [u8], from: usize, c: Cluster) -> usize
     requires { ⌜ (c .«need_count» ≤ 4) × (from + length (needLinesText fiveNames (drop 1 (viewCluster c .needs))) ≤ length (now buf)) ⌝ }
     ensures { λ r. ⌜ Put (now (buf .entry)) from (needLinesText fiveNames (drop 1 (viewCluster c .needs))) r (now (buf .exit)) ⌝ }
@@ -97,7 +98,7 @@ fn put_need_lines(buf: &mut [u8], from: usize, c: Cluster) -> usize
     at
 }
 
-// The lines of a cluster.
+// Puts the lines of a cluster.
 pub fn put_cluster(buf: &mut [u8], at: usize, c: Cluster) -> usize
     requires { ⌜ (c .«need_count» ≤ 4) × (at + length (clusterLines fiveNames (viewCluster c)) ≤ length (now buf)) ⌝ }
     ensures { λ r. ⌜ Put (now (buf .entry)) at (clusterLines fiveNames (viewCluster c)) r (now (buf .exit)) ⌝ }

@@ -1,4 +1,4 @@
-// A table written as a list.
+// Writes a table as a list.
 ghost use mathlib.Core.Path.{_≡_};
 ghost use mathlib.Core.Bool.{true};
 ghost use Prim.Native.Nat.{_+_, _≤_};
@@ -11,7 +11,8 @@ use crate::put::put_cluster;
 use clusters::table::Table;
 use text::write::put_bytes;
 
-// The lines of the clusters.
+// Puts the lines of the clusters. Precondition: the table is within its limits, and the lines fit into the buffer from the place on;
+// `write_list` requires both of the whole list.
 fn put_clusters(buf: &mut [u8], from: usize, t: Table) -> usize
     requires { ⌜ (tableWithin (viewTable t) ≡ true) × (from + length (clustersText fiveNames (viewTable t)) ≤ length (now buf)) ⌝ }
     ensures { λ r. ⌜ Put (now (buf .entry)) from (clustersText fiveNames (viewTable t)) r (now (buf .exit)) ⌝ }
@@ -27,8 +28,9 @@ fn put_clusters(buf: &mut [u8], from: usize, t: Table) -> usize
     at
 }
 
-// The list at the start of the buffer; gives its length. The table is within its limits: one that was read is, and so are those of
-// a sound state. The caller compares the length of the list, known beforehand, with the buffer's.
+// Writes the list at the start of the buffer and gives its length. Precondition: the table is within its limits, and the buffer has room
+// for the list; a table that was read is within them, and so are those of a sound state, and callers compare the length of the list, known
+// beforehand, with the buffer's, or lend a buffer for the longest.
 pub fn write_list(buf: &mut [u8], t: Table) -> usize
     requires { ⌜ (tableWithin (viewTable t) ≡ true) × (length (writeList (viewTable t)) ≤ length (now buf)) ⌝ }
     ensures { λ r. ⌜ Put (now (buf .entry)) 0 (writeList (viewTable t)) r (now (buf .exit)) ⌝ }

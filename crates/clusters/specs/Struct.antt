@@ -18,7 +18,7 @@ unfoldable pub structCluster : Cluster → ClusterStruct
 structCluster c =
     record { part = c .part; version = c .version; needs = padded needsMost noNeed (c .needs); «need_count» = length (c .needs); stays = c .stays }
 
--- what stands in an unused place of a table
+-- the value of an unused place of a table
 abbrev pub clearedCluster : ClusterStruct
 clearedCluster = record { part = 0; version = noVersion; needs = replicate needsMost noNeed; «need_count» = 0; stays = false }
 

@@ -10,7 +10,7 @@ use Rattle.clusters.specs.declared.table.Table.{Table as TableStruct}
 use Rattle.clusters.specs.Cluster.{Cluster, markedCluster, need, needsMost}
 use Rattle.clusters.specs.Table.{Table, clustersMost}
 
--- what stands in an unused place
+-- the value of an unused place
 abbrev pub noVersion : Version
 noVersion = version 0 0 0 0
 

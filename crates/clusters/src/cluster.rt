@@ -24,7 +24,7 @@ pub struct Cluster {
     pub stays: bool,
 }
 
-// A cluster with no needs, mark 0 and every unused place 0.
+// Makes a cluster with no needs, mark 0 and every unused place 0.
 pub fn new_cluster(part: u32, version: Version) -> Cluster
     ensures { λ r. ⌜ r ≡ newCluster part version ⌝ }
 {
@@ -42,7 +42,8 @@ pub fn new_cluster(part: u32, version: Version) -> Cluster
     }
 }
 
-// A cluster with one need more, behind the others. Callers check before that there is room.
+// Adds a need to a cluster, behind the others. Precondition: the cluster has fewer than 4; callers add to a new cluster, compare the number
+// before, or read no more lines of needs than there is room for.
 pub fn with_need(c: Cluster, n: Need) -> Cluster
     requires { ⌜ c .«need_count» < needsMost ⌝ }
     ensures { λ r. ⌜ r ≡ withNeed c n ⌝ }
@@ -60,7 +61,7 @@ pub fn with_need(c: Cluster, n: Need) -> Cluster
     }
 }
 
-// A cluster with this mark.
+// Gives a cluster this mark.
 pub fn with_mark(c: Cluster, stays: bool) -> Cluster
     ensures { λ r. ⌜ r ≡ withMark c stays ⌝ }
 {

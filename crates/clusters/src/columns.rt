@@ -20,7 +20,8 @@ pub struct Columns {
     pub count: usize,
 }
 
-// The columns of a table. The check of the limits of the table meets what is required.
+// Takes out the columns of a table. Precondition: the table has at most 64 clusters; callers have checked the limits of the table, or
+// require them.
 pub fn columns_of(t: Table) -> Columns
     requires { ⌜ t .count ≤ clustersMost ⌝ }
     ensures { λ r. ⌜ ColumnsOf r (viewTable t) ⌝ }
@@ -46,7 +47,8 @@ pub fn columns_of(t: Table) -> Columns
     }
 }
 
-// Where a part number stands among the first of a column. The columns of a table meet what is required.
+// Finds where a part number stands among the first of a column. Precondition: the column has 64 places, and at most so many count;
+// `columns_of` gives such columns.
 pub fn place_of(parts: &[u32; CLUSTERS_MOST], count: usize, part: u32) -> Found
     requires { ⌜ (count ≤ clustersMost) × (length (now parts) ≡ clustersMost) ⌝ }
     ensures { λ r. ⌜ r ≡ placeAmong 0 part (take count (now (parts .entry))) ⌝ }

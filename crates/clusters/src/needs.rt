@@ -1,5 +1,6 @@
-// Whether a table meets needs. The table's columns are taken out once, and the needs are looked up in them. What is required of
-// a table and its clusters is met by the check of their limits.
+// Says whether a table meets needs. The table's columns are taken out once, and the needs are looked up in them. Precondition of each
+// function: the table, or the one that the columns are of, has at most 64 clusters and a cluster at most 4 needs; `needs_met` requires a
+// table within its limits, which a table that was read and the staged table of a sound state are.
 use crate::cluster::Cluster;
 use crate::cluster::Need;
 use crate::columns::Columns;
@@ -16,7 +17,7 @@ ghost use Rattle.clusters.specs.Table.{Table as PlainTable, meets, meets
 ghost use Rattle.clusters.specs.View.{viewCluster, viewTable};
 ghost use Rattle.clusters.specs.Columns.{ColumnsOf};
 
-// Whether the table with these columns holds the needed cluster at a version that fulfils the least one.
+// Says whether the table with these columns holds the needed cluster at a version that fulfils the least one.
 fn meets_in(columns: Columns, n: Need) -> bool
     requires { ⌜ columns .count ≤ clustersMost ⌝ }
     ensures { λ r. ⌜ ((t : PlainTable) → ColumnsOf columns t → r ≡ meets t n) ⌝ }
@@ -29,7 +30,7 @@ fn meets_in(columns: Columns, n: Need) -> bool
     fulfils(version, n.least)
 }
 
-// Whether the table with these columns meets each need of one cluster.
+// Says whether the table with these columns meets each need of one cluster.
 fn meets_all_in(columns: Columns, c: Cluster) -> bool
     requires { ⌜ (columns .count ≤ clustersMost) × (c .«need_count» ≤ needsMost) ⌝ }
     ensures { λ r. ⌜ ((t : PlainTable) → ColumnsOf columns t → r ≡ meetsAll t (viewCluster c .needs)) ⌝ }
@@ -46,7 +47,7 @@ fn meets_all_in(columns: Columns, c: Cluster) -> bool
     true
 }
 
-// Whether the table holds the needed cluster at a version that fulfils the least one.
+// Says whether the table holds the needed cluster at a version that fulfils the least one.
 pub fn meets(t: Table, n: Need) -> bool
     requires { ⌜ t .count ≤ clustersMost ⌝ }
     ensures { λ r. ⌜ r ≡ meets (viewTable t) n ⌝ }
@@ -55,7 +56,7 @@ pub fn meets(t: Table, n: Need) -> bool
     meets_in(columns, n)
 }
 
-// Whether the table meets each need of each of its clusters.
+// Says whether the table meets each need of each of its clusters.
 pub fn needs_met(t: Table) -> bool
     requires { ⌜ tableWithin (viewTable t) ≡ true ⌝ }
     ensures { λ r. ⌜ r ≡ needsMet (viewTable t) ⌝ }

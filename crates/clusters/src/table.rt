@@ -24,7 +24,8 @@ pub struct Table {
     pub count: usize,
 }
 
-// Where the cluster with a part number stands. The check of the limits of the table meets what is required.
+// Finds where the cluster with a part number stands. Precondition: the table has at most 64 clusters; the callers in `actions` require the
+// same.
 pub fn find(t: Table, part: u32) -> Found
     requires { ⌜ t .count ≤ clustersMost ⌝ }
     ensures place { λ r. ⌜ r ≡ placeOf part (viewTable t) ⌝ }
@@ -42,7 +43,7 @@ pub fn find(t: Table, part: u32) -> Found
     Found::Nothing
 }
 
-// A table with no clusters and every unused place 0.
+// Makes a table with no clusters and every unused place 0.
 pub fn empty_table() -> Table
     ensures { λ r. ⌜ r ≡ emptyTable ⌝ }
 {
@@ -54,7 +55,8 @@ pub fn empty_table() -> Table
     }
 }
 
-// A cluster put behind the last. Callers check before that there is room.
+// Puts a cluster behind the last. Precondition: the table has fewer than 64 clusters; callers compare the count before, or begin with the
+// empty table.
 pub fn append(t: Table, c: Cluster) -> Table
     requires { ⌜ t .count < clustersMost ⌝ }
     ensures { λ r. ⌜ r ≡ append t c ⌝ }
@@ -68,7 +70,8 @@ pub fn append(t: Table, c: Cluster) -> Table
     }
 }
 
-// A need put behind those of the last cluster. Callers check before that there is a cluster and that it has room.
+// Puts a need behind those of the last cluster. Precondition: the table has 1 to 64 clusters, and the last fewer than 4 needs; the reader
+// of a list compares both numbers before.
 pub fn with_need_at_last(t: Table, n: Need) -> Table
     requires { ⌜ (1 ≤ t .count) × (t .count ≤ clustersMost) × (getD (t .clusters) (t .count - 1) noCluster .«need_count» < needsMost) ⌝ }
     ensures { λ r. ⌜ r ≡ withNeedAtLast t n ⌝ }

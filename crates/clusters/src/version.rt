@@ -3,7 +3,7 @@ use text::version::Version;
 ghost use mathlib.Core.Path.{_≡_};
 ghost use Rattle.clusters.specs.Version.{above, atOrAbove, fulfils};
 
-// Whether v is above w: the first part from the left that differs decides.
+// Says whether v is above w: the first part from the left that differs decides.
 pub fn above(v: Version, w: Version) -> bool
     ensures { λ r. ⌜ r ≡ above v w ⌝ }
 {
@@ -19,14 +19,14 @@ pub fn above(v: Version, w: Version) -> bool
     w.fourth < v.fourth
 }
 
-// Whether v is the least version or above.
+// Says whether v is the least version or above.
 pub fn at_or_above(v: Version, least: Version) -> bool
     ensures { λ r. ⌜ r ≡ atOrAbove v least ⌝ }
 {
     !above(least, v)
 }
 
-// Whether v meets a need with this least version: it has the same first part and is the least version or above.
+// Says whether v meets a need with this least version: it has the same first part and is the least version or above.
 pub fn fulfils(v: Version, least: Version) -> bool
     ensures { λ r. ⌜ r ≡ fulfils v least ⌝ }
 {

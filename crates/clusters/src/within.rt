@@ -14,7 +14,7 @@ ghost use Rattle.clusters.specs.Cluster.{partWithin, needWithin, needsWi
 ghost use Rattle.clusters.specs.Table.{risingAbove, tableWithin, clustersMost};
 ghost use Rattle.clusters.specs.View.{viewCluster, viewTable};
 
-// The largest fourth part is the largest of 32 bits.
+// Says whether a version is within the limits. The fourth part needs no test: its largest value is the largest of 32 bits.
 pub fn version_within(v: Version) -> bool
     ensures { λ r. ⌜ r ≡ versionWithin v ⌝ }
 {
@@ -22,7 +22,7 @@ pub fn version_within(v: Version) -> bool
         & ((v.second <= VERSION_PART_MOST) & (v.third <= VERSION_PART_MOST))
 }
 
-// The largest part number is the largest of 32 bits.
+// Says whether a part number is within the limits. The largest needs no test: it is the largest of 32 bits.
 pub fn part_within(part: u32) -> bool
     ensures { λ r. ⌜ r ≡ partWithin part ⌝ }
 {
@@ -35,7 +35,8 @@ pub fn need_within(n: Need) -> bool
     part_within(n.part) & version_within(n.least)
 }
 
-// Whether each need of a cluster is within the limits. cluster_within checks their number before.
+// Says whether each need of a cluster is within the limits. Precondition: the cluster has at most 4; `cluster_within` compares their number
+// before.
 fn needs_within(c: Cluster) -> bool
     requires { ⌜ c .«need_count» ≤ needsMost ⌝ }
     ensures { λ r. ⌜ r ≡ needsWithin (viewCluster c .needs) ⌝ }
@@ -61,7 +62,8 @@ pub fn cluster_within(c: Cluster) -> bool
     part_within(c.part) & (version_within(c.version) & needs_within(c))
 }
 
-// Whether the clusters are within their limits and in rising part number. table_within checks their number before.
+// Says whether the clusters are within their limits and in rising part number. Precondition: the table has at most 64; `table_within`
+// compares their number before.
 fn rising(t: Table) -> bool
     requires { ⌜ t .count ≤ clustersMost ⌝ }
     ensures { λ r. ⌜ r ≡ risingAbove 0 (viewTable t) ⌝ }

@@ -13,20 +13,20 @@ use clusters::table::empty_table;
 use clusters::version::above;
 use text::version::Version;
 
-// Whether a version is above another.
+// Prints whether a version is above another.
 pub fn compare(case: &[u8]) {
     let v = version_of(field(case, 1));
     let w = version_of(field(case, 2));
     show::yes_or_no(above(v, w));
 }
 
-// Whether a table that holds cluster 20 alone, at a version, meets a need.
+// Says whether a table that holds cluster 20 alone, at a version, meets a need.
 fn is_met(part: u32, least: Version, held: Version) -> bool {
     let table = append(empty_table(), new_cluster(20, held));
     meets(table, Need { part, least })
 }
 
-// The need of a part number at a least version, in a table that holds cluster 20 at a version.
+// Prints whether a need of a part number at a least version is met in a table that holds cluster 20 at a version.
 pub fn need(case: &[u8]) {
     let part = number_of(field(case, 1));
     let least = version_of(field(case, 2));
@@ -34,7 +34,7 @@ pub fn need(case: &[u8]) {
     show::yes_or_no(is_met(part, least, held));
 }
 
-// Whether the table that a list says meets all its needs. The fields before the list say in words what is in it.
+// Prints whether the table that a list says meets all its needs. The fields before the list say in words what is in it.
 pub fn needs(case: &[u8]) {
     let read = read_list(field(case, 3));
     show::yes_or_no(needs_met(read.table));

@@ -10,7 +10,7 @@ use cases::case::field;
 use cases::case::kind_of;
 use cases::show;
 
-// A case, by its sentence.
+// Prints a case, by its sentence.
 pub fn show_case(case: &[u8]) {
     let sentence = field(case, 0);
     show::with_fields(sentence, case);

@@ -9,7 +9,7 @@ use cluster_list::read::read_list;
 use cluster_list_writer::length::list_length;
 use cluster_list_writer::write::write_list;
 
-// A list read, behind what the case is of: the list that our writer writes, and its length known beforehand.
+// Reads the list in the field behind what the case is of, and prints its length known beforehand and the list that our writer writes.
 pub fn list(case: &[u8]) {
     let read = read_list(field(case, 2));
     let answer = read.answer;
@@ -24,7 +24,7 @@ pub fn list(case: &[u8]) {
     show::bytes(&buffer[..end]);
 }
 
-// How long a list can be that is written, and one that can be read.
+// Prints how long a list can be that is written, and one that can be read.
 pub fn longest() {
     show::length(longest_written());
     show::bytes(b" written,");

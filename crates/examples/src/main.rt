@@ -12,7 +12,7 @@ mod versions;
 use crate::kinds::show_case;
 use libc::STDIN_FILENO;
 
-// Each case, from behind its `#` to the next.
+// Prints each case, from behind its `#` to the next.
 fn show_cases(input: &[u8]) {
     let mut at = 1;
     while at < input.len() {

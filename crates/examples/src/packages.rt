@@ -41,7 +41,7 @@ fn show_action(action: Action) {
     show::bytes(b" needs");
 }
 
-// The action, and the payload's count, start and sum.
+// Prints the action, and the payload's count, start and sum.
 fn show_read(read: PackageRead) {
     let action = read.action;
     show_action(action);
@@ -54,7 +54,7 @@ fn show_read(read: PackageRead) {
     show::byte(b'\n');
 }
 
-// Refusal 9 or 10, or 0.
+// Gives refusal 9 or 10, or 0.
 fn refusal_of(answer: PackageAnswer) -> u32
     ensures { λ r. ⌜ r ≡ answerNumber answer ⌝ }
 {
@@ -65,7 +65,7 @@ fn refusal_of(answer: PackageAnswer) -> u32
     }
 }
 
-// An area read, behind what the case is of.
+// Reads the area in the field behind what the case is of, and prints the refusal or what was read.
 pub fn package(case: &[u8]) {
     let read = read_package(field(case, 2));
     let answer = read.answer;

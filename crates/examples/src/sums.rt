@@ -6,17 +6,17 @@ use checksum::continue_sum;
 use checksum::number;
 use checksum::start;
 
-// The sum of two parts, continued from the first to the second.
+// Gives the sum of two parts, continued from the first to the second.
 fn sum_of(first: &[u8], second: &[u8]) -> u32 {
     number(continue_sum(continue_sum(start(), first), second))
 }
 
-// The sum of two parts.
+// Prints the sum of two parts.
 pub fn sum(case: &[u8]) {
     show::value(sum_of(field(case, 1), field(case, 2)));
 }
 
-// Each byte once, in order.
+// Gives each byte once, in order.
 fn bytes_in_order() -> [u8; 256] {
     let mut bytes = [0; 256];
     let mut i = 0;
@@ -27,7 +27,7 @@ fn bytes_in_order() -> [u8; 256] {
     bytes
 }
 
-// The sum of the bytes from a place on, then of those before it; `ill-formed` where there is no such place.
+// Prints the sum of the bytes from a place on, then of those before it; `ill-formed` where there is no such place.
 fn sum_around(bytes: &[u8], from: usize) {
     if bytes.len() < from {
         show::ill_formed();
@@ -36,7 +36,7 @@ fn sum_around(bytes: &[u8], from: usize) {
     show::value(sum_of(&bytes[from..], &bytes[0..from]));
 }
 
-// The sum of all 256 bytes in order, from the place that the case gives on, then of those before it.
+// Prints the sum of all 256 bytes in order, from the place that the case gives on, then of those before it.
 pub fn sum_in_order(case: &[u8]) {
     let bytes = bytes_in_order();
     sum_around(&bytes, number_of(field(case, 1)) as usize);

@@ -15,7 +15,7 @@ use clusters::table::Table;
 use package_heading::change::ChangeRead;
 use package_heading::change::change_of;
 
-// The part number and the last part of the version of a cluster, and whether it stays.
+// Prints the part number and the last part of the version of a cluster, and whether it stays.
 fn show_cluster(cluster: Cluster) {
     show::byte(b' ');
     show::number(cluster.part);
@@ -26,7 +26,7 @@ fn show_cluster(cluster: Cluster) {
     }
 }
 
-// Each cluster of a table.
+// Prints each cluster of a table.
 fn show_table(table: Table) {
     let count = table.count;
     let mut i = 0;
@@ -40,7 +40,7 @@ fn show_table(table: Table) {
     show::byte(b'\n');
 }
 
-// An action on a table: its refusal, or the table with it applied.
+// Prints the refusal of an action on a table, or the table with it applied.
 fn act(table: Table, action: Action) {
     if table.count > CLUSTERS_MOST {
         return;
@@ -53,7 +53,7 @@ fn act(table: Table, action: Action) {
     show_table(apply(table, action));
 }
 
-// An action as word, part number and version, and the list that says the table. The mark of the action's own cluster is 1: it plays
+// Reads an action as word, part number and version, and the list that says the table. The mark of the action's own cluster is 1: it plays
 // no part.
 pub fn action(case: &[u8]) {
     let ChangeRead::Value(change, _) = change_of(field(case, 1)) else {

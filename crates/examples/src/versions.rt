@@ -6,7 +6,7 @@ use text::version::whole_version;
 use text::write::put_version;
 use text::write::version_length;
 
-// A version read: how many bytes it takes, and the version written in a buffer of dashes.
+// Reads a version, and prints how many bytes it takes and the version written in a buffer of dashes.
 pub fn read(case: &[u8]) {
     let VersionRead::Value(version, _) = whole_version(field(case, 1)) else {
         show::ill_formed();

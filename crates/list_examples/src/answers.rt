@@ -1,15 +1,15 @@
-// What the calls of a list answer, printed.
+// Prints what the calls of a list answer.
 use cases::show;
 use state::phase::phase_number;
 use state::state::State;
 
-// A word and a number behind it.
+// Prints a word and a number behind it.
 fn show_numbered(word: &[u8], value: u32) {
     show::bytes(word);
     show::number(value);
 }
 
-// The name of an answer by its two words.
+// Prints the name of an answer by its two words.
 fn show_answer(kind: u32, value: u32) {
     match kind {
         0 => show_numbered(b"id ", value),
@@ -30,7 +30,7 @@ fn show_answer(kind: u32, value: u32) {
     }
 }
 
-// The first so many words, two for each answer.
+// Prints the answers in the first so many words, two for each.
 pub fn show_answers(words: &[u32], count: usize) {
     let mut i = 0;
     while i < count {
@@ -44,7 +44,7 @@ pub fn show_answers(words: &[u32], count: usize) {
     }
 }
 
-// The number of the manager's state, which ends the line.
+// Prints the number of the manager's state, which ends the line.
 pub fn show_state(s: State) {
     show::bytes(b" state ");
     let phase = s.phase;

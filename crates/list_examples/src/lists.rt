@@ -14,7 +14,7 @@ use cases::values::number_of;
 use clusters::table::empty_table;
 use state::state::loaded_state;
 
-// The list is run from the table of the case.
+// Runs the list from the table of the case.
 fn run_list(case: &[u8], words: &[u32], store: &mut [u8], answers: &mut [u32]) -> RepliedList {
     let first = number_of(field(case, 1));
     let handed_in = loaded_state(empty_table(), 1);
@@ -29,7 +29,7 @@ fn run_list(case: &[u8], words: &[u32], store: &mut [u8], answers: &mut [u32]) -
     )
 }
 
-// The answers of a list that was made, as words, and the state then; or why none was made.
+// Prints the answers of a list that was made, and the state then; or why none was made.
 fn show_replied(list: RepliedList, answers: &[u32], count: usize) {
     let reply = list.reply;
     match reply {
@@ -54,7 +54,7 @@ fn play_list(case: &[u8], words: &[u32]) {
     show_list(case, words, &mut store, &mut answers);
 }
 
-// The further call of a row, behind the list.
+// Makes the further call of a row, behind the list, and prints its answer.
 fn show_further_call(
     case: &[u8],
     words: &[u32],
@@ -86,7 +86,7 @@ fn play_further(case: &[u8], words: &[u32]) {
     }
 }
 
-// The words lend the room for the list.
+// Plays a case; the words lend the room for the list.
 fn play_in(case: &[u8], words: &mut [u32]) {
     let count = put_words(words, field(case, 3));
     if field(case, 4).len() == 0 {

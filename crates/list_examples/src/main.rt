@@ -8,7 +8,7 @@ mod words;
 use crate::lists::play;
 use libc::STDIN_FILENO;
 
-// Each case, from behind its `#` to the next.
+// Plays each case, from behind its `#` to the next.
 fn play_all(input: &[u8]) {
     let mut at = 0;
     while at < input.len() {

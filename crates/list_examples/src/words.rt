@@ -4,7 +4,8 @@ ghost use mathlib.Core.Path.{_≡_};
 ghost use Prim.Native.Nat.{_≤_};
 ghost use lib.ListN.{length};
 
-// A word is put at a place if that is in the slice; the answer is the next place.
+// Puts a word at a place if that is in the slice, and gives the next place. Precondition: the place is not past the end; `put_words` begins
+// at 0 and goes on with the places that this function gives.
 fn put_word(words: &mut [u32], at: usize, word: u32) -> usize
     requires { ⌜ at ≤ length (now words) ⌝ }
     ensures { λ r. ⌜ (r ≤ length (now (words .entry))) × (length (now (words .exit)) ≡ length (now (words .entry))) ⌝ }
@@ -16,7 +17,7 @@ fn put_word(words: &mut [u32], at: usize, word: u32) -> usize
     at
 }
 
-// The words of a text are put into the slice, as many as have room; the answer is how many.
+// Puts the words of a text into the slice, as many as have room, and says how many.
 pub fn put_words(words: &mut [u32], text: &[u8]) -> usize
     ensures { λ r. ⌜ (r ≤ length (now (words .entry))) × (length (now (words .exit)) ≡ length (now (words .entry))) ⌝ }
 {

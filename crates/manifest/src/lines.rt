@@ -21,7 +21,7 @@ pub enum NeedLine {
     IllFormed,
 }
 
-// Whether the line at a cursor is the empty line: one field, and nothing in it.
+// Says whether the line at a cursor is the empty line: one field, and nothing in it.
 pub fn is_empty_line(s: &[u8], line: Cursor) -> bool
     ensures { λ r. ⌜ r ≡ isEmptyLine (now (s .entry)) (line .at) ⌝ }
 {
@@ -31,7 +31,7 @@ pub fn is_empty_line(s: &[u8], line: Cursor) -> bool
     cell_is_empty(s, line, 0)
 }
 
-// Whether cluster and version of the line at a cursor are empty.
+// Says whether cluster and version of the line at a cursor are empty.
 fn no_cluster(s: &[u8], line: Cursor, columns: ClusterColumns) -> bool
     ensures { λ r. ⌜ r ≡ noCluster columns (drop (line .at) (now (s .entry))) ⌝ }
 {
@@ -41,7 +41,7 @@ fn no_cluster(s: &[u8], line: Cursor, columns: ClusterColumns) -> bool
     cell_is_empty(s, line, columns.version)
 }
 
-// Whether action, payload and sum of the line at a cursor are empty.
+// Says whether action, payload and sum of the line at a cursor are empty.
 fn no_payload(s: &[u8], line: Cursor, columns: PackageColumns) -> bool
     ensures { λ r. ⌜ r ≡ noPayload columns (drop (line .at) (now (s .entry))) ⌝ }
 {
@@ -54,7 +54,7 @@ fn no_payload(s: &[u8], line: Cursor, columns: PackageColumns) -> bool
     cell_is_empty(s, line, columns.sum)
 }
 
-// The need of a value line behind the first, at a cursor.
+// Reads the need of a value line behind the first, at a cursor.
 pub fn only_need(s: &[u8], line: Cursor, columns: PackageColumns) -> NeedLine
     ensures { λ r. ⌜ needFound r ≡ onlyNeed columns (drop (line .at) (now (s .entry))) ⌝ }
 {
@@ -74,7 +74,7 @@ pub fn only_need(s: &[u8], line: Cursor, columns: PackageColumns) -> NeedLine
     NeedLine::Value(further)
 }
 
-// How many value lines may follow the first.
+// Says how many value lines may follow the first.
 pub fn further_most(change: Change) -> usize
     ensures { λ r. ⌜ r ≡ furtherMost change ⌝ }
 {

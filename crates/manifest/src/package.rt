@@ -52,14 +52,14 @@ pub struct PackageRead {
     pub sum: u32,
 }
 
-// A cluster with only its part number.
+// Makes a cluster with only its part number.
 fn bare_cluster(part: u32) -> Cluster
     ensures { λ r. ⌜ r ≡ structCluster (cluster part noVersion []) ⌝ }
 {
     new_cluster(part, NO_VERSION)
 }
 
-// An answer with everything beside it cleared.
+// Gives an answer with everything beside it cleared.
 fn no_package(answer: PackageAnswer) -> PackageRead
     ensures { λ r. ⌜ r ≡ cleared answer ⌝ }
 {
@@ -73,7 +73,7 @@ fn no_package(answer: PackageAnswer) -> PackageRead
     }
 }
 
-// The action that a change of a cluster is. Of a remove only the part number is kept.
+// Makes the action that a change of a cluster is. Of a remove only the part number is kept.
 fn action_of(change: Change, cluster: Cluster) -> Action
     ensures { λ r. ⌜ ((plain : PlainCluster) → cluster ≡ structCluster plain → r ≡ structAction (actionOf change plain)) ⌝ }
 {
@@ -93,7 +93,8 @@ fn action_of(change: Change, cluster: Cluster) -> Action
     }
 }
 
-// The package whose text ends with the empty line at a cursor. Its caller has found the LF there.
+// Gives the package whose text ends with the empty line at a cursor. Precondition: the cursor is before the end of the area;
+// `package_behind` has found the LF there.
 fn package_with(s: &[u8], heading: Heading, cluster: Cluster, line: Cursor) -> PackageRead
     requires { ⌜ line .at < length (now s) ⌝ }
     ensures { λ r. ⌜ PackageEnding (now (s .entry)) heading cluster (line .at) r ⌝ }
@@ -114,7 +115,7 @@ fn package_with(s: &[u8], heading: Heading, cluster: Cluster, line: Cursor) -> P
     no_package(PackageAnswer::Inconsistent)
 }
 
-// The package whose first value line is read, from the cursor behind it on.
+// Reads a package from the cursor behind its first value line on.
 fn package_behind(s: &[u8], columns: PackageColumns, from: Cursor, heading: Heading) -> PackageRead
     ensures { λ r. ⌜ r ≡ packageRead (packageBehind columns (now (s .entry)) (from .at) (plainHeading heading)) ⌝ }
 {
@@ -142,7 +143,7 @@ fn package_behind(s: &[u8], columns: PackageColumns, from: Cursor, heading: Head
     package_with(s, heading, cluster, line)
 }
 
-// The package whose names line is read, from the cursor behind it on.
+// Reads a package from the cursor behind its names line on.
 fn package_from(s: &[u8], columns: PackageColumns, first: Cursor) -> PackageRead
     ensures { λ r. ⌜ r ≡ packageRead (packageFrom columns (now (s .entry)) (first .at)) ⌝ }
 {
@@ -155,7 +156,7 @@ fn package_from(s: &[u8], columns: PackageColumns, first: Cursor) -> PackageRead
     package_behind(s, columns, next, heading)
 }
 
-// The package in an area, from its names line on.
+// Reads the package in an area, from its names line on.
 fn package_at_start(s: &[u8]) -> PackageRead
     ensures { λ r. ⌜ r ≡ packageRead (readPackage (now (s .entry))) ⌝ }
 {
@@ -169,7 +170,7 @@ fn package_at_start(s: &[u8]) -> PackageRead
     package_from(s, columns, first)
 }
 
-// The package in an area: refusal 9, refusal 10, or its action and where its payload lies.
+// Reads the package in an area: gives refusal 9, refusal 10, or its action and where its payload lies.
 pub fn read_package(s: &[u8]) -> PackageRead
     ensures meaning { λ r. ⌜ answerNumber (r .answer) ≡ refusalNumber (readPackage (now (s .entry))) ⌝ }
     ensures exact { λ r. ⌜ r ≡ packageRead (readPackage (now (s .entry))) ⌝ }

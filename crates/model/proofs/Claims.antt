@@ -60,7 +60,7 @@ pub accepted-exactly-so : (s : State) (store : Store) (call : Call) (answer : An
     → sound s store ≡ true → (step s store call ≡ outcome answer s′ store′) ↔ Accepted s store call (outcome answer s′ store′)
 accepted-exactly-so = accepted-exactly
 
--- "and happens under no other condition", of Payload: on a sound state the call beside it gives 0 exactly when a package has the id, it
+-- "and happens under no other condition", of Payload: on a sound state `payloadCheck` gives 0 exactly when a package has the id, it
 -- is not Transferring and its area reads as a package with exactly its payload
 pub payload-given-exactly-so : (s : State) (store : Store) (id : ℕ) → sound s store ≡ true
     → (payloadCheck s store id ≡ 0) ↔ PayloadGiven s store id

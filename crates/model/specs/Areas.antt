@@ -7,7 +7,7 @@ use lib.Dec.{eqb}
 use lib.ListN.{length, take, drop, replicate}
 use Rattle.model.specs.State.{PackageState, transferring, transferred, beingProcessed, processed, Package, Store}
 
--- "declared sizes", added up
+-- "Declared sizes", added up
 unfoldable pub declared : List Package → ℕ
 declared [] = 0
 declared (p ∷ ps) = p .size + declared ps

@@ -41,7 +41,7 @@ readingReply (some number) count = cond (eqb number 19) (shortBuffer count) (ref
 
 -- ---- reports into a lent buffer: Packages, ClusterInfo and ChangeInfo
 
--- the refusals behind 1: "19. ShortBuffer: a report buffer too short; gives the length needed."
+-- the refusals after refusal 1: "19. ShortBuffer: a report buffer too short; gives the length needed."
 unfoldable pub furtherReportRefusals : ℕ → ℕ → List Refusal
 furtherReportRefusals needed room = (refuse 19 when ltb room needed) ∷ []
 
@@ -122,7 +122,7 @@ changeInfoReport s store old = reportOf s store (changeInfo s) old
 
 -- ---- Payload
 
--- the refusals behind 1: 4; 5 "Payload on Transferring"; 9; 10
+-- the refusals after refusal 1: 4; 5 "Payload on Transferring"; 9; 10
 unfoldable pub furtherPayloadRefusals : State → Store → ℕ → List Refusal
 furtherPayloadRefusals s store id =
     (refuse 4 when unknown id (s .transfers .packages))

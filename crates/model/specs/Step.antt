@@ -46,7 +46,7 @@ manifestOf inconsistent = noManifest
 manifestOf (consistent m) = m
 
 -- the refusals of the transfer calls and of Process by the values that they look at. Where a call names an id, they are those of the
--- package that has it, and stand behind 4
+-- package that has it, and come after refusal 4
 
 -- "7. IncorrectSize: Start with 0"; "16. TransfersFull: Start with 16 packages."; "17. InsufficientMemory: Start with size above the
 -- free bytes."; "18. IdsSpent: Start after 4,294,967,295 was given."
@@ -117,7 +117,7 @@ module _ (s : State) (store : Store) where
   ownRefusals finish = []
   ownRefusals (report good) = []
 
-  -- those behind 1
+  -- those after refusal 1
   unfoldable pub furtherRefusals : Call → List Refusal
   furtherRefusals call =
       -- "2. ServiceBusy: Process in Processing."

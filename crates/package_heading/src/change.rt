@@ -11,7 +11,7 @@ pub enum ChangeRead {
     IllFormed,
 }
 
-// The change that a word names.
+// Reads the change that a word names.
 pub fn change_of(word: &[u8]) -> ChangeRead
     ensures { λ r. ⌜ r ≡ changeOf (now (word .entry)) ⌝ }
 {

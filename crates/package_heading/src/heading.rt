@@ -48,7 +48,7 @@ pub enum HeadingRead {
     IllFormed,
 }
 
-// Whether version, needs and least of the line at a cursor are empty.
+// Says whether version, needs and least of the line at a cursor are empty.
 fn only_part(s: &[u8], line: Cursor, columns: ClusterColumns) -> bool
     ensures { λ r. ⌜ r ≡ onlyPart columns (drop (line .at) (now (s .entry))) ⌝ }
 {
@@ -61,7 +61,7 @@ fn only_part(s: &[u8], line: Cursor, columns: ClusterColumns) -> bool
     cell_is_empty(s, line, columns.least)
 }
 
-// The first value line of a remove. Its caller has taken the change apart.
+// Reads the first value line of a remove. Precondition: the change is Remove; `heading_of` has taken it apart.
 fn remove_heading(s: &[u8], line: Cursor, columns: PackageColumns, fields: Fields) -> HeadingRead
     requires { ⌜ fields .change ≡ Remove ⌝ }
     ensures { λ r. ⌜ headingFound r ≡ ofFields fields (removeHeading columns (drop (line .at) (now (s .entry)))) ⌝ }
@@ -80,7 +80,7 @@ fn remove_heading(s: &[u8], line: Cursor, columns: PackageColumns, fields: Field
     HeadingRead::IllFormed
 }
 
-// The first value line of an install or update.
+// Reads the first value line of an install or update.
 fn cluster_heading(s: &[u8], line: Cursor, columns: PackageColumns, fields: Fields) -> HeadingRead
     ensures { λ r. ⌜ headingFound r ≡ ofFields fields (clusterHeading (fields .change) columns (drop (line .at) (now (s .entry)))) ⌝ }
 {
@@ -99,7 +99,7 @@ fn cluster_heading(s: &[u8], line: Cursor, columns: PackageColumns, fields: Fiel
     })
 }
 
-// The first value line by its action.
+// Reads the first value line by its action.
 fn heading_of(s: &[u8], line: Cursor, columns: PackageColumns, fields: Fields) -> HeadingRead
     ensures { λ r. ⌜ headingFound r ≡ ofFields fields (headingOf (fields .change) columns (drop (line .at) (now (s .entry)))) ⌝ }
 {
@@ -111,7 +111,7 @@ fn heading_of(s: &[u8], line: Cursor, columns: PackageColumns, fields: Fields) -
     }
 }
 
-// The first value line from its payload and sum on.
+// Reads the first value line from its payload and sum on.
 fn payload_heading(
     s: &[u8],
     line: Cursor,
@@ -138,7 +138,7 @@ fn payload_heading(
     heading_of(s, line, columns, fields)
 }
 
-// The first value line, at a cursor.
+// Reads the first value line, at a cursor.
 pub fn heading_at(s: &[u8], line: Cursor, columns: PackageColumns) -> HeadingRead
     ensures { λ r. ⌜ headingFound r ≡ firstLine columns (drop (line .at) (now (s .entry))) ⌝ }
 {

@@ -19,7 +19,7 @@ pub struct PackagesReport {
     pub written: Records,
 }
 
-// A refusal: nothing is written.
+// Gives a refusal: nothing is written.
 fn none_written(answer: ReadingReply) -> PackagesReport
     ensures { λ r. ⌜ r ≡ noneWritten answer ⌝ }
 {
@@ -35,7 +35,7 @@ fn none_written(answer: ReadingReply) -> PackagesReport
     }
 }
 
-// The report of a state, for a store of a size and a list with room for so many records.
+// Gives the report of a state, for a store of a size and a list with room for so many records.
 pub fn report_within(s: State, size: usize, room: usize) -> PackagesReport
     ensures { λ r. ⌜ ((store : Store) → length store ≡ size → r ≡ reportByValue s store room) ⌝ }
 {
@@ -54,7 +54,7 @@ pub fn report_within(s: State, size: usize, room: usize) -> PackagesReport
     }
 }
 
-// How many records are copied into a list with a room: those that the report counts, where they fit.
+// Says how many records are copied into a list with a room: those that the report counts, where they fit.
 pub fn copied(report: PackagesReport, room: usize) -> usize
     ensures { λ r. ⌜ r ≡ copiedOf (report .written .count) room ⌝ }
 {
@@ -69,7 +69,7 @@ pub fn copied(report: PackagesReport, room: usize) -> usize
     count
 }
 
-// The record at a place; a cleared one past the last place.
+// Gives the record at a place; a cleared one past the last place.
 pub fn record_at(report: PackagesReport, i: usize) -> Record
     ensures { λ r. ⌜ r ≡ recordAt (report .written .records) i ⌝ }
 {
@@ -81,7 +81,7 @@ pub fn record_at(report: PackagesReport, i: usize) -> Record
     cleared_record()
 }
 
-// The answer of a report.
+// Gives the answer of a report.
 pub fn answer_of(report: PackagesReport) -> ReadingReply
     ensures { λ r. ⌜ r ≡ report .answer ⌝ }
 {

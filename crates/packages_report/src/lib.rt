@@ -22,7 +22,7 @@ pub struct Record {
     pub state: u32,
 }
 
-// What stands in an unused place.
+// Makes the record of an unused place: every number 0.
 pub fn cleared_record() -> Record
     ensures { λ r. ⌜ r ≡ clearedRecord ⌝ }
 {
@@ -34,7 +34,7 @@ pub fn cleared_record() -> Record
     }
 }
 
-// The records of a report into the first places of a lent list; those behind them keep their values.
+// Copies the records of a report into the first places of a lent list; those behind them keep their values.
 fn fill(list: &mut [Record], report: PackagesReport) -> ReadingReply
     ensures { λ r. ⌜ (r ≡ report .answer) × (now (list .exit) ≡ filledFrom (report .written) (now (list .entry))) ⌝ }
 {
@@ -49,7 +49,7 @@ fn fill(list: &mut [Record], report: PackagesReport) -> ReadingReply
     answer_of(report)
 }
 
-// Packages: the records of all packages into the first places of a lent list, where they fit. A refusal writes nothing.
+// Packages: writes the records of all packages into the first places of a lent list, where they fit. A refusal writes nothing.
 pub fn packages(s: State, store: &[u8], list: &mut [Record]) -> ReadingReply
     ensures meaning { λ r. ⌜ packagesGiven r (now (list .exit)) ≡ modelPackages s (now (store .entry)) (now (list .entry)) ⌝ }
     ensures exact { λ r. ⌜ now (list .exit) ≡ reportBuffer (replyOf r) (listed s) (now (list .entry)) ⌝ }

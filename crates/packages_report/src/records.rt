@@ -41,7 +41,7 @@ fn record_of(p: Package) -> Record
     }
 }
 
-// The records of all packages. A sound state meets what is required.
+// Makes the records of all packages. Precondition: there are at most 16; `report_within` checks before that the state is sound.
 pub fn records_of(t: Transfers) -> Records
     requires { ⌜ t .count ≤ packagesMost ⌝ }
     ensures { λ r. ⌜ r ≡ recordsOf t ⌝ }

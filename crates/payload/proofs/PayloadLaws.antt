@@ -1,5 +1,5 @@
--- What the place of the payload says: its number is that of the call beside Payload, its bytes are the model's payload, and it lies in the
--- store. The place behind 1 is the same where the state is sound. Assumes nothing.
+-- What the place of the payload says: its number is that of `payload_check`, its bytes are the model's payload, and it lies in the
+-- store. The place that the checks after refusal 1 give is the same where the state is sound. Assumes nothing.
 use Prim.Native.Nat.{ℕ, _+_, _≤_}
 use mathlib.Core.Path.{_≡_, refl, sym, ap, subst, _∙_}
 use mathlib.Core.Bool.{true, false, not}

@@ -26,6 +26,6 @@ module _ (s : State) (store : Store) (id : ℕ) where
   unfoldable pub place : PayloadPlace
   place = placeUnless (firstRefusal (payloadRefusals s store id))
 
-  -- the same behind 1, of a sound state
+  -- the same after refusal 1, of a sound state
   unfoldable pub placeOnSound : PayloadPlace
   placeOnSound = placeUnless (firstRefusal (furtherPayloadRefusals s store id))

@@ -1,5 +1,5 @@
-// Payload: "Payload(id) returns the payload's part of the store itself, empty when refused; a call beside it with the same checks gives
-// the refusal number, or 0."
+// Payload: "Payload(id) returns the payload's part of the store itself, empty when refused; a call beside it with the same checks gives the
+// refusal number, or 0." The latter is `payload_check`.
 mod place;
 
 use crate::place::payload_place;
@@ -16,7 +16,7 @@ ghost use Rattle.state.specs.View.{viewState};
 ghost use Rattle.payload.specs.Part.{PartAt};
 ghost use Rattle.payload.specs.Place.{place, placeOnSound};
 
-// Payload of a state that is known to be sound.
+// Gives the payload's part of the store. Precondition: the state is sound; `payload` checks that before.
 fn payload_on_sound(s: State, store: &[u8], id: u32) -> &[u8]
     requires { ⌜ soundFor (viewState s) (length (now store)) ≡ true ⌝ }
     ensures { λ r. ⌜ PartAt (store .entry) (placeOnSound (viewState s) (now (store .entry)) id) r ⌝ }
@@ -28,7 +28,7 @@ fn payload_on_sound(s: State, store: &[u8], id: u32) -> &[u8]
     &store[start..end]
 }
 
-// The call beside it, of a state that is known to be sound.
+// Gives the number of the first refusal after 1 that applies, or 0. Precondition: the state is sound; `payload_check` checks that before.
 fn payload_check_on_sound(s: State, store: &[u8], id: u32) -> u32
     requires { ⌜ soundFor (viewState s) (length (now store)) ≡ true ⌝ }
     ensures { λ r. ⌜ r ≡ numberOrZero (firstRefusal (furtherPayloadRefusals (viewState s) (now (store .entry)) id)) ⌝ }

@@ -34,7 +34,8 @@ fn no_place(number: u32) -> PayloadPlace
     }
 }
 
-// By the checks behind 1, which look at nothing of the state but its packages. A sound state meets what is required.
+// Finds the payload's place by the checks after refusal 1, which look at nothing of the state but its packages. Precondition: there are at
+// most 16 packages, and their areas fit the store; those of a sound state do, which the callers require.
 pub fn payload_place(t: Transfers, store: &[u8], id: u32) -> PayloadPlace
     requires { ⌜ (t .count ≤ packagesMost) × (declared (viewPackages t) ≤ length (now store)) ⌝ }
     ensures { λ r. ⌜ ((s : model.State) → s .transfers .packages ≡ viewPackages t → r ≡ placeOnSound s (now (store .entry)) id) ⌝ }

@@ -11,7 +11,8 @@ pub enum Found {
     Nothing,
 }
 
-// Where a number stands first among the first count of a column. The columns of a table and of a session's list meet what is required.
+// Finds where a number stands first among the first count of a column. Precondition: the column has at least count places; callers search
+// the columns of a table and of a session's list, whose counts they require to fit.
 pub fn place_of(numbers: &[u32], count: usize, number: u32) -> Found
     requires { ⌜ count ≤ length (now numbers) ⌝ }
     ensures { λ r. ⌜ r ≡ firstPlace (eqb number) 0 (take count (now (numbers .entry))) ⌝ }

@@ -15,7 +15,7 @@ ghost use Rattle.model.specs.Reading.{given, progressOf, progress};
 ghost use Rattle.state.specs.View.{keptWork, viewState};
 ghost use Rattle.reading_reply.specs.Reply.{replyOf};
 
-// "floor(100 × done / payload)": the product has 64 bits. `percentage` sees before that there is a payload.
+// Computes "floor(100 × done / payload)": the product has 64 bits. Precondition: the payload is not 0; `percentage` compares it before.
 fn floor(done: u32, payload: u32) -> u64
     requires { ⌜ 1 ≤ payload ⌝ }
     ensures { λ r. ⌜ r ≡ 100 * done / payload ⌝ }
@@ -23,7 +23,7 @@ fn floor(done: u32, payload: u32) -> u64
     100 * done as u64 / payload as u64
 }
 
-// The percentage of the payload that is done, whatever is kept.
+// Gives the percentage of the payload that is done, whatever is kept.
 fn percentage(w: Work) -> usize
     ensures { λ r. ⌜ r ≡ progressOf (some (keptWork w)) ⌝ }
 {
@@ -33,7 +33,7 @@ fn percentage(w: Work) -> usize
     floor(w.done, w.count) as usize
 }
 
-// Progress of a state that is known to be sound, which `progress` checks.
+// Answers Progress. Precondition: the state is sound; `progress` checks that before.
 fn progress_on_sound(s: State, store: &[u8]) -> ReadingReply
     requires { ⌜ soundFor (viewState s) (length (now store)) ≡ true ⌝ }
     ensures { λ r. ⌜ replyOf r ≡ given (progressOf (viewState s .work)) ⌝ }

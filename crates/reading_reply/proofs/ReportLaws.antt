@@ -24,7 +24,7 @@ use Rattle.reading_reply.specs.declared.ReadingReply.{ReadingReply}
 use Rattle.reading_reply.specs.declared.ReadingReply.the-variants.{Refused, ShortBuffer, Given}
 use Rattle.reading_reply.specs.Reply.{replyOf, viewReport, replyOnSound, reportOnSound}
 
--- ---- behind 1
+-- ---- after refusal 1
 
 module _ (needed room : ℕ) where
   short-reply : room < needed → replyOnSound needed room ≡ shortBuffer needed

@@ -18,7 +18,7 @@ replyOf (Given count) = model.given count
 abbrev pub viewReport : {A : Type 0} → ReadingReply → List A → Report A
 viewReport reply buffer = record { reply = replyOf reply; buffer = buffer }
 
--- ---- behind 1
+-- ---- after refusal 1
 
 -- "19. ShortBuffer: a report buffer too short; gives the length needed."; "These three answer the number of records or bytes written."
 unfoldable pub replyOnSound : ℕ → ℕ → model.ReadingReply

@@ -38,7 +38,7 @@ pub enum PackageColumnsRead {
     IllFormed,
 }
 
-// The first of the given number of fields of a line that is the name.
+// Finds the first of the given number of fields of a line that is the name.
 pub fn column_of(s: &[u8], line: Cursor, fields: usize, name: &[u8]) -> Column
     ensures { λ r. ⌜ r ≡ columnFrom fields 0 (now (name .entry)) (drop (line .at) (now (s .entry))) ⌝ }
 {
@@ -52,7 +52,7 @@ pub fn column_of(s: &[u8], line: Cursor, fields: usize, name: &[u8]) -> Column
     Column::Missing
 }
 
-// The four names of the cluster list among the given number of fields.
+// Finds the four names of the cluster list among the given number of fields.
 pub fn cluster_columns(s: &[u8], line: Cursor, fields: usize) -> ClusterColumnsRead
     ensures { λ r. ⌜ r ≡ clusterColumns fields (drop (line .at) (now (s .entry))) ⌝ }
 {
@@ -76,7 +76,7 @@ pub fn cluster_columns(s: &[u8], line: Cursor, fields: usize) -> ClusterColumnsR
     })
 }
 
-// The seven names of a package among the given number of fields.
+// Finds the seven names of a package among the given number of fields.
 pub fn package_columns(s: &[u8], line: Cursor, fields: usize) -> PackageColumnsRead
     ensures { λ r. ⌜ r ≡ packageColumns fields (drop (line .at) (now (s .entry))) ⌝ }
 {

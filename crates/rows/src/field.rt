@@ -4,7 +4,8 @@ ghost use Prim.Native.Nat.{_+_, _≤_};
 ghost use lib.ListN.{length, drop};
 ghost use Rattle.rows.specs.Field.{field, behindField, cell, Start};
 
-// The position of the first comma or LF from a position on, or the end. Its callers here give a position within the text.
+// Finds the first comma or LF from a position on, or the end. Precondition: the position is within the text; `cell_start` gives such a
+// position, and `behind_field` requires one.
 fn field_end(s: &[u8], from: usize) -> usize
     requires { ⌜ from ≤ length (now s) ⌝ }
     ensures { λ r. ⌜ r ≡ from + length (field (drop from (now (s .entry)))) ⌝ }
@@ -23,8 +24,8 @@ fn field_end(s: &[u8], from: usize) -> usize
     i
 }
 
-// The position behind the field at a position and behind the byte that ends it, or the end. `cell_start` gives a position
-// within the text.
+// Gives the position behind the field at a position and behind the byte that ends it, or the end. Precondition: the position is within the
+// text; `cell_start` begins with one and goes on with those that this function gives.
 fn behind_field(s: &[u8], from: usize) -> usize
     requires { ⌜ from ≤ length (now s) ⌝ }
     ensures { λ r. ⌜ Start r (behindField (drop from (now (s .entry)))) (now (s .entry)) ⌝ }
@@ -36,7 +37,7 @@ fn behind_field(s: &[u8], from: usize) -> usize
     end
 }
 
-// Where field number k of the line at a position begins; the end where there is none.
+// Finds where field number k from a position on begins, counted from 0 and past the ends of lines; the end where there is none.
 fn cell_start(s: &[u8], at: usize, k: usize) -> usize
     ensures { λ r. ⌜ (r ≤ length (now (s .entry))) × (field (drop r (now (s .entry))) ≡ cell k (drop at (now (s .entry)))) ⌝ }
 {
@@ -52,7 +53,7 @@ fn cell_start(s: &[u8], at: usize, k: usize) -> usize
     from
 }
 
-// Field number k of the line at a position, counted from 0: the part of the text itself.
+// Gives field number k of the line at a position, counted from 0: the part of the text itself.
 pub fn cell_from(s: &[u8], at: usize, k: usize) -> &[u8]
     ensures { λ r. ⌜ now r ≡ cell k (drop at (now (s .entry))) ⌝ }
 {

@@ -10,7 +10,7 @@ pub enum Line {
     IllFormed,
 }
 
-// The line at a position, which has one field more than commas.
+// Reads the line at a position, which has one field more than commas.
 pub fn line_from(s: &[u8], at: usize, commas: usize) -> Line
     ensures { λ r. ⌜ r ≡ lineFrom commas at (drop at (now (s .entry))) ⌝ }
 {

@@ -24,7 +24,7 @@ pub enum ListColumnsRead {
     IllFormed,
 }
 
-// A names line of five fields.
+// Reads a names line of five fields.
 fn five_columns(s: &[u8]) -> ListColumnsRead
     ensures { λ r. ⌜ r ≡ andThenLine read.IllFormed (lineFrom 4 0 (now (s .entry))) (λ next. fiveColumns next (now (s .entry))) ⌝ }
 {
@@ -45,7 +45,7 @@ fn five_columns(s: &[u8]) -> ListColumnsRead
     ListColumnsRead::Named(columns, next)
 }
 
-// The names line that a list begins with: the number of its fields decides between four names and five.
+// Reads the names line that a list begins with: the number of its fields decides between four names and five.
 pub fn list_columns(s: &[u8]) -> ListColumnsRead
     ensures { λ r. ⌜ r ≡ listColumns (now (s .entry)) ⌝ }
 {

@@ -14,21 +14,21 @@ pub struct LineReader<'a> {
     pub at: usize,
 }
 
-// The reader's line, which has one field more than commas.
+// Reads the reader's line, which has one field more than commas.
 pub fn read_line<'a>(reader: LineReader<'a>, commas: usize) -> Line
     ensures { λ r. ⌜ r ≡ lineFrom commas (reader .entry .at) (drop (reader .entry .at) (now (reader .entry .text))) ⌝ }
 {
     line_from(reader.text, reader.at, commas)
 }
 
-// Field number k of the reader's line, counted from 0: the part of the text itself.
+// Gives field number k of the reader's line, counted from 0: the part of the text itself.
 pub fn read_cell<'a>(reader: LineReader<'a>, k: usize) -> &'a [u8]
     ensures { λ r. ⌜ now r ≡ cell k (drop (reader .entry .at) (now (reader .entry .text))) ⌝ }
 {
     cell_from(reader.text, reader.at, k)
 }
 
-// The line at a cursor, which has one field more than commas.
+// Reads the line at a cursor, which has one field more than commas.
 pub fn line_at(s: &[u8], cursor: Cursor, commas: usize) -> Line
     ensures { λ r. ⌜ r ≡ lineFrom commas (cursor .at) (drop (cursor .at) (now (s .entry))) ⌝ }
 {
@@ -39,7 +39,7 @@ pub fn line_at(s: &[u8], cursor: Cursor, commas: usize) -> Line
     read_line(reader, commas)
 }
 
-// Field number k of the line at a cursor, counted from 0: the part of the text itself.
+// Gives field number k of the line at a cursor, counted from 0: the part of the text itself.
 pub fn cell_at(s: &[u8], line: Cursor, k: usize) -> &[u8]
     ensures { λ r. ⌜ now r ≡ cell k (drop (line .at) (now (s .entry))) ⌝ }
 {
@@ -50,7 +50,7 @@ pub fn cell_at(s: &[u8], line: Cursor, k: usize) -> &[u8]
     read_cell(reader, k)
 }
 
-// Whether field number k of the line at a cursor is empty.
+// Says whether field number k of the line at a cursor is empty.
 pub fn cell_is_empty(s: &[u8], line: Cursor, k: usize) -> bool
     ensures { λ r. ⌜ r ≡ isEmpty (cell k (drop (line .at) (now (s .entry)))) ⌝ }
 {

@@ -50,7 +50,7 @@ module _ (t : TableStruct) (within : tableWithin (viewTable t) ≡ true) (long :
   pub arrays-of : (waits : List ℕ) → WaitsOf waits (viewTable t) (t .count) → ArraysOf (columns .parts) waits (columns .count) (viewTable t)
   arrays-of waits h = record { within = within; sized = of .size; parts-of = of .parts; waits-of = rw same-count h }
 
--- ---- behind 1: n is the number of clusters
+-- ---- after refusal 1: n is the number of clusters
 
 module _ (t : Table) (old : List ℕ) (n : ℕ) (e : n ≡ length t) where
   pub short-waves : length old / 2 < n → viewReport (ShortBuffer n) old ≡ wavesOnSound t old

@@ -1,4 +1,4 @@
--- What the waves give behind 1.
+-- What the waves give after refusal 1.
 use mathlib.Core.List.{List}
 use Prim.Native.Nat.{ℕ}
 use lib.ListN.{length}

@@ -26,7 +26,8 @@ ghost use Rattle.start_waves.specs.OnSound.{wavesOnSound};
 mod rounds;
 mod waits;
 
-// The waves of a table at the buffer's start. `report_waves` checks the room before.
+// Writes the waves of a table at the buffer's start. Precondition: the table is within its limits, and the buffer has room for two numbers
+// of each cluster; `report_waves` requires the first and checks the room.
 fn write_waves(table: Table, buffer: &mut [u32])
     requires { ⌜ (tableWithin (viewTable table) ≡ true) × (2 * table .count ≤ length (now buffer)) ⌝ }
     ensures { λ r. ⌜ now (buffer .exit) ≡ sets (now (buffer .entry)) 0 (numbersOf (startWaves (viewTable table))) ⌝ }
@@ -36,7 +37,8 @@ fn write_waves(table: Table, buffer: &mut [u32])
     list_waves(&columns.parts, &waits.places, columns.count, buffer);
 }
 
-// The waves of a table in the lent buffer, if it has the room. The running table of a sound state is within its limits.
+// Writes the waves of a table into the lent buffer, if it has the room. Precondition: the table is within its limits; the running table of
+// a sound state is.
 fn report_waves(table: Table, buffer: &mut [u32]) -> ReadingReply
     requires { ⌜ tableWithin (viewTable table) ≡ true ⌝ }
     ensures { λ r. ⌜ viewReport r (now (buffer .exit)) ≡ wavesOnSound (viewTable table) (now (buffer .entry)) ⌝ }
@@ -49,7 +51,7 @@ fn report_waves(table: Table, buffer: &mut [u32]) -> ReadingReply
     ReadingReply::Given(needed)
 }
 
-// The waves of a state that is known to be sound, which `waves` checks.
+// Answers the start waves. Precondition: the state is sound; `waves` checks that before.
 fn waves_on_sound(s: State, store: &[u8], buffer: &mut [u32]) -> ReadingReply
     requires { ⌜ soundFor (viewState s) (length (now store)) ≡ true ⌝ }
     ensures { λ r. ⌜ viewReport r (now (buffer .exit)) ≡ wavesOnSound (runningOf (viewState s)) (now (buffer .entry)) ⌝ }

@@ -18,7 +18,8 @@ pub struct Started {
     pub count: usize,
 }
 
-// Whether what stands at a place has a wave before this number. Behind every place nothing stands.
+// Says whether what stands at a place has a wave before this number. Behind every place nothing stands. Precondition: the array has 64
+// places; `can_start` requires the same.
 fn started_before(waves: &[u32; CLUSTERS_MOST], place: usize, number: u32) -> bool
     requires { ⌜ length (now waves) ≡ clustersMost ⌝ }
     ensures { λ r. ⌜ r ≡ startedBefore (now (waves .entry)) place number ⌝ }
@@ -30,7 +31,8 @@ fn started_before(waves: &[u32; CLUSTERS_MOST], place: usize, number: u32) -> bo
     (0 < wave) & (wave < number)
 }
 
-// Whether the cluster at the place own waits for nothing: all the others that it needs have a wave before this number.
+// Says whether the cluster at the place own waits for nothing: all the others that it needs have a wave before this number. Precondition:
+// the place is one of the 64, and the arrays have a place for each cluster and each need; `joins_at` requires the same.
 fn can_start(
     waits: &[usize; WAITS_MOST],
     waves: &[u32; CLUSTERS_MOST],
@@ -51,7 +53,8 @@ fn can_start(
     true
 }
 
-// Whether the cluster at the place own joins the wave of this number: without a wave so far, it can start, or it closes.
+// Says whether the cluster at the place own joins the wave of this number: without a wave so far, it can start, or it closes. Precondition:
+// as of `can_start`; `add_wave` has such arrays and goes along the places of a table.
 fn joins_at(
     closing: bool,
     waits: &[usize; WAITS_MOST],
@@ -71,7 +74,8 @@ fn joins_at(
     can_start(waits, waves, own, number)
 }
 
-// An entry, a part number and its wave, at its place in the lent buffer.
+// Puts an entry, a part number and its wave, at its place in the lent buffer. Precondition: the buffer has room for the two numbers;
+// `add_wave` requires room for every cluster that it may list.
 fn put_entry(buffer: &mut [u32], place: usize, part: u32, wave: u32)
     requires { ⌜ 2 * place + 2 ≤ length (now buffer) ⌝ }
     ensures { λ r. ⌜ now (buffer .exit) ≡ sets (now (buffer .entry)) (2 * place) (part ∷ wave ∷ []) ⌝ }
@@ -81,7 +85,9 @@ fn put_entry(buffer: &mut [u32], place: usize, part: u32, wave: u32)
     buffer[at + 1] = wave;
 }
 
-// One wave more, in the order of the table. `list_waves` has room for every cluster that is not listed.
+// Adds a wave, in the order of the table. Precondition: the arrays have their length and the table at most 64 clusters, the number is at
+// least 1, and the buffer has room for the clusters that are listed or have no wave; `list_waves` requires the room for every cluster and
+// counts from 1.
 fn add_wave(
     closing: bool,
     parts: &[u32; CLUSTERS_MOST],
@@ -113,8 +119,9 @@ fn add_wave(
     }
 }
 
-// The waves of the table that the arrays are of. Each round but the last lists a cluster; where one lists none the rest close. Its caller
-// `write_waves` has the arrays of a table and the room for every cluster.
+// Lists the waves of the table that the arrays are of. Each round but the last lists a cluster; where one lists none the rest close.
+// Precondition: the arrays have their length, the table has at most 64 clusters, and the buffer has room for all; `write_waves` has the
+// arrays of a table within its limits and requires the room.
 pub fn list_waves(
     parts: &[u32; CLUSTERS_MOST],
     waits: &[usize; WAITS_MOST],

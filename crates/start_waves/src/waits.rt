@@ -24,7 +24,8 @@ pub struct Waits {
     pub places: [usize; WAITS_MOST],
 }
 
-// Where a part number stands, or behind every place where it is absent.
+// Finds where a part number stands, or gives the place behind all where it is absent. Precondition: the column has 64 places, and at most
+// so many count; `wait_of` requires the same.
 fn place_or_behind(parts: &[u32; CLUSTERS_MOST], count: usize, part: u32) -> usize
     requires { ⌜ (count ≤ clustersMost) × (length (now parts) ≡ clustersMost) ⌝ }
     ensures { λ r. ⌜ r ≡ placeOr clustersMost (placeAmong 0 part (take count (now (parts .entry)))) ⌝ }
@@ -35,7 +36,8 @@ fn place_or_behind(parts: &[u32; CLUSTERS_MOST], count: usize, part: u32) -> usi
     i
 }
 
-// The place that the cluster at the place own waits for by its need j.
+// Finds the place that the cluster at the place own waits for by its need j. Precondition: the column has 64 places, at most so many count,
+// and the cluster has at most 4 needs; `waits_of` requires a table within its limits.
 fn wait_of(parts: &[u32; CLUSTERS_MOST], count: usize, c: Cluster, own: usize, j: usize) -> usize
     requires { ⌜ (count ≤ clustersMost) × (length (now parts) ≡ clustersMost) × (c .«need_count» ≤ needsMost) ⌝ }
     ensures { λ r. ⌜ ((t : PlainTable) → take count (now (parts .entry)) ≡ map partOf t → r ≡ waitBy t own (viewCluster c) j) ⌝ }
@@ -47,7 +49,8 @@ fn wait_of(parts: &[u32; CLUSTERS_MOST], count: usize, c: Cluster, own: usize, j
     place_or_behind(parts, count, n.part)
 }
 
-// The places of a table whose part numbers stand in the column. `write_waves` has these of a table within its limits.
+// Finds the places that the clusters of a table wait for. Precondition: the table is within its limits, and its part numbers stand in the
+// column; `write_waves` requires the first and takes out the column.
 pub fn waits_of(t: Table, parts: &[u32; CLUSTERS_MOST]) -> Waits
     requires { ⌜ PartsOf (now parts) t ⌝ }
     ensures { λ r. ⌜ WaitsOf (r .places) (viewTable t) (t .count) ⌝ }

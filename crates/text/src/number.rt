@@ -11,7 +11,7 @@ pub enum Number {
     IllFormed,
 }
 
-// The value of a digit, or 10 for any other byte.
+// Gives the value of a digit, or 10 for any other byte.
 fn digit(b: u8) -> u64
     ensures { λ r. ⌜ r ≡ digitOf b ⌝ }
 {
@@ -24,8 +24,8 @@ fn digit(b: u8) -> u64
     b as u64 - 48
 }
 
-// A number that has the value first so far and goes on at a position. The value is compared with most
-// at every digit, so any length of digits is safe. number_at meets the limit: it has compared the first digit.
+// Reads on a number that has the value first so far, from a position on. The value is compared with most at every digit, so any length of
+// digits is safe. Precondition: first is not above most; `number_at` has compared the first digit with it.
 fn number_goes_on(s: &[u8], at: usize, first: u32, most: u32) -> Number
     requires { ⌜ first ≤ most ⌝ }
     ensures { λ r. ⌜ r ≡ numberGoesOn most first at (drop at (now (s .entry))) ⌝ }
@@ -50,7 +50,7 @@ fn number_goes_on(s: &[u8], at: usize, first: u32, most: u32) -> Number
     Number::Value(value as u32, Cursor { at: i })
 }
 
-// The number at a cursor, at most as large as most.
+// Reads the number at a cursor, at most as large as most.
 pub fn number_at(s: &[u8], cursor: Cursor, most: u32) -> Number
     ensures { λ r. ⌜ r ≡ numberAt (now (s .entry)) (cursor .at) most ⌝ }
 {
@@ -68,7 +68,7 @@ pub fn number_at(s: &[u8], cursor: Cursor, most: u32) -> Number
     number_goes_on(s, at + 1, d as u32, most)
 }
 
-// A text that is one number and nothing else.
+// Reads a text that is one number and nothing else.
 pub fn whole_number(s: &[u8], most: u32) -> Number
     ensures { λ r. ⌜ r ≡ wholeNumber most (now (s .entry)) ⌝ }
 {

@@ -33,7 +33,7 @@ pub enum VersionRead {
     IllFormed,
 }
 
-// A dot and the part of a version behind it, at most as large as most.
+// Reads a dot and the part of a version behind it, at most as large as most.
 fn dotted_at(s: &[u8], cursor: Cursor, most: u32) -> Number
     ensures { λ r. ⌜ r ≡ dottedAt (now (s .entry)) (cursor .at) most ⌝ }
 {
@@ -48,7 +48,7 @@ fn dotted_at(s: &[u8], cursor: Cursor, most: u32) -> Number
     }
 }
 
-// The version at a cursor.
+// Reads the version at a cursor.
 pub fn version_at(s: &[u8], cursor: Cursor) -> VersionRead
     ensures { λ r. ⌜ r ≡ versionAt (now (s .entry)) (cursor .at) ⌝ }
 {
@@ -75,7 +75,7 @@ pub fn version_at(s: &[u8], cursor: Cursor) -> VersionRead
     )
 }
 
-// A text that is one version and nothing else.
+// Reads a text that is one version and nothing else.
 pub fn whole_version(s: &[u8]) -> VersionRead
     ensures { λ r. ⌜ r ≡ wholeVersion (now (s .entry)) ⌝ }
 {

@@ -1,5 +1,6 @@
-// Writers: each puts the text of a value at a place of a lent buffer and gives the place behind it.
-// Their callers meet the `requires` by comparing the whole length, known beforehand, with the buffer's.
+// Writers: each puts the text of a value at a place of a lent buffer and gives the place behind it. Precondition of each: the text fits
+// into the buffer from the place on; callers compare the whole length, known beforehand, with the buffer's, or lend a buffer that holds the
+// longest text.
 ghost use mathlib.Core.Path.{_≡_};
 ghost use mathlib.Core.List.{_∷_};
 ghost use Prim.Native.Nat.{_+_, _≤_};
@@ -10,7 +11,7 @@ ghost use Rattle.text.specs.Version.{versionText};
 ghost use Rattle.text.specs.Put.{Put};
 use crate::version::Version;
 
-// A text as it is.
+// Puts a text as it is.
 pub fn put_bytes(buf: &mut [u8], at: usize, text: &[u8]) -> usize
     requires { ⌜ at + length (now text) ≤ length (now buf) ⌝ }
     ensures { λ r. ⌜ Put (now (buf .entry)) at (now (text .entry)) r (now (buf .exit)) ⌝ }
@@ -23,7 +24,7 @@ pub fn put_bytes(buf: &mut [u8], at: usize, text: &[u8]) -> usize
     at + i
 }
 
-// How many digits n has.
+// Counts the digits of n.
 pub fn number_length(n: u32) -> usize
     ensures { λ r. ⌜ r ≡ length (digits n) ⌝ }
 {
@@ -36,7 +37,7 @@ pub fn number_length(n: u32) -> usize
     count
 }
 
-// The digits of n, from the last to the first.
+// Puts the digits of n, from the last to the first.
 pub fn put_number(buf: &mut [u8], at: usize, n: u32) -> usize
     requires { ⌜ at + length (digits n) ≤ length (now buf) ⌝ }
     ensures { λ r. ⌜ Put (now (buf .entry)) at (digits n) r (now (buf .exit)) ⌝ }
@@ -53,7 +54,7 @@ pub fn put_number(buf: &mut [u8], at: usize, n: u32) -> usize
     end
 }
 
-// A dot and a number.
+// Puts a dot and a number.
 fn put_dotted(buf: &mut [u8], at: usize, n: u32) -> usize
     requires { ⌜ at + length (dot ∷ digits n) ≤ length (now buf) ⌝ }
     ensures { λ r. ⌜ Put (now (buf .entry)) at (dot ∷ digits n) r (now (buf .exit)) ⌝ }
@@ -62,7 +63,7 @@ fn put_dotted(buf: &mut [u8], at: usize, n: u32) -> usize
     put_number(buf, at + 1, n)
 }
 
-// How many bytes a version has as text.
+// Counts the bytes of a version as text.
 pub fn version_length(v: Version) -> usize
     ensures { λ r. ⌜ r ≡ length (versionText v) ⌝ }
 {
@@ -73,7 +74,7 @@ pub fn version_length(v: Version) -> usize
         + 3
 }
 
-// The four parts, joined by dots.
+// Puts the four parts, joined by dots.
 pub fn put_version(buf: &mut [u8], at: usize, v: Version) -> usize
     requires { ⌜ at + length (versionText v) ≤ length (now buf) ⌝ }
     ensures { λ r. ⌜ Put (now (buf .entry)) at (versionText v) r (now (buf .exit)) ⌝ }

@@ -1,4 +1,4 @@
--- "Reading calls": what Packages, ClusterInfo, ChangeInfo, Payload with the call beside it, and Progress answer, and what the first
+-- "Reading calls": what Packages, ClusterInfo, ChangeInfo, Payload with `payloadCheck`, and Progress answer, and what the first
 -- three leave in the lent buffer, with each of their refusals. A report that is made up, or the same each time, does not hold, nor one
 -- that rounds up, wants more room than it writes, or lists in another order. Assumes nothing.
 use Prim.Native.Nat.{ℕ, _+_}
@@ -25,7 +25,7 @@ pub data Question : Type 0 where
   payloadOf : ℕ → Question
   progressNow : Question
 
--- records or bytes, with the reply; Payload's bytes with its reply and the number of the call beside it; a reply alone
+-- records or bytes, with the reply; Payload's bytes with its reply and the number of `payloadCheck`; a reply alone
 pub data Given : Type 0 where
   records : ReadingReply → List PackageRecord → Given
   text : ReadingReply → List ℕ → Given

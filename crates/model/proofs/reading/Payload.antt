@@ -1,4 +1,4 @@
--- Payload's bytes are exactly the count and end the area; the call beside it gives the number of the refusal, or 0, and on a sound state
+-- Payload's bytes are exactly the count and end the area; `payloadCheck` gives the number of the refusal, or 0, and on a sound state
 -- 0 exactly where document 01 demands no refusal. Assumes nothing.
 use Prim.Native.Nat.{ℕ, _+_}
 use mathlib.Core.Path.{_≡_, refl, sym, ap, _∙_}
@@ -29,7 +29,7 @@ use Rattle.model.proofs.journal.NeverUnsound.{hasNumber, first-listed}
 use Rattle.model.proofs.reading.Replies.{reply-number}
 
 module _ (s : State) (store : Store) (id : ℕ) where
-  -- the call beside it gives 0 exactly where Payload is not refused
+  -- `payloadCheck` gives 0 exactly where Payload is not refused
   pub check-number : payloadCheck s store id ≡ numberOrZero (firstRefusal (payloadRefusals s store id))
   unfolding payloadCheck payloadReply
   check-number = reply-number (firstRefusal (payloadRefusals s store id)) (length (payloadPart s store id))
@@ -103,7 +103,7 @@ module _ (s : State) (store : Store) (id : ℕ) where
         inside = ap (λ (l : List ℕ). take (m .start) area ++ l) behind ∙ take-append-drop (m .start) area;
       }
 
--- on a sound state the call beside Payload gives 0 exactly where what Payload demands is there
+-- on a sound state `payloadCheck` gives 0 exactly where what Payload demands is there
 pub given-exactly : (s : State) (store : Store) (id : ℕ) → sound s store ≡ true → (payloadCheck s store id ≡ 0) ↔ PayloadGiven s store id
 unfolding payloadRefusals furtherPayloadRefusals
 given-exactly s store id ok = (

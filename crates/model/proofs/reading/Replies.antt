@@ -1,5 +1,5 @@
--- The replies of the reading calls: their numbers, and what decides them. On a sound state their refusals behind 1 decide, and an
--- unsound one is refused by 1. Assumes nothing.
+-- The replies of the reading calls: their numbers, and what decides them. On a sound state their refusals after refusal 1
+-- decide, and an unsound one is refused by 1. Assumes nothing.
 use Prim.Native.Nat.{ℕ}
 use mathlib.Core.Path.{_≡_, refl, sym}
 use mathlib.Core.Bool.{true, false}
@@ -22,7 +22,7 @@ reply-number (some number) count =
     (λ e. sym (eqb-true number 19 e)) λ e. refl
 
 module _ (s : State) (store : Store) where
-  -- a reading call on a sound state is decided by its refusals behind 1
+  -- a reading call on a sound state is decided by its refusals after refusal 1
   pub report-decided : (needed room : ℕ) → sound s store ≡ true
       → firstRefusal (reportRefusals s store needed room) ≡ firstRefusal (furtherReportRefusals needed room)
   unfolding reportRefusals

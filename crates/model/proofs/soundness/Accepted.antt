@@ -42,7 +42,7 @@ module _ (r : Refusal) (rs : List Refusal) where
   unfolding firstRefusal
   refused-by h = rw h
 
--- ---- behind 1, with whatever refusals of a call there
+-- ---- after refusal 1, with whatever refusals of a call
 
 module _ (s : State) (store : Store) (rs : List Refusal) where
   pub on-sound : sound s store ≡ true → firstRefusal (badState s store ∷ rs) ≡ firstRefusal rs

@@ -1,5 +1,5 @@
 -- `payload::payload` meets its contract: the empty part at the store's start of an unsound state, and of a sound one the part at the
--- place that the checks behind 1 give. Assumes nothing.
+-- place that the checks after refusal 1 give. Assumes nothing.
 use borrow.Author.Needs.{needs}
 use mathlib.Core.Path.{refl, sym}
 use Rattle.base.proofs.Ladder.{told-no, told-yes}

@@ -1,6 +1,8 @@
 -- An area in the store.
 use Prim.Native.Nat.{ℕ, _+_, _≤_, _<_}
-use lib.ListN.{take}
+use lib.ListN.{take, drop}
+use Rattle.manifest.specs.Package.{PackageRead, readPackage}
+use Rattle.model.specs.State.{Store}
 use Rattle.model.specs.Areas.{declared}
 use Rattle.model.specs.Sound.{storeMost, packagesMost}
 use Rattle.state.specs.declared.package.Package.{Package}
@@ -14,3 +16,7 @@ pub record AreaInside (t : Transfers) (i : ℕ) (p : Package) (storeLength : ℕ
   pub below : i < t .count
   pub area : declared (take i (viewPackages t)) + p .size ≤ storeLength
   pub room : storeLength ≤ storeMost
+
+-- what the text in the area of the package p at i reads as
+abbrev pub readAt : Transfers → ℕ → Package → Store → PackageRead
+readAt t i p store = readPackage (take (p .size) (drop (declared (take i (viewPackages t))) store))

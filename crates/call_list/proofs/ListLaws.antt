@@ -24,7 +24,7 @@ use Rattle.call_rows.proofs.RowListLaws.{whole-row, next-call, no-calls-left}
 use Rattle.call_list.specs.declared.RowAnswered.{RowAnswered}
 use Rattle.call_list.specs.Run.{exactMixedStep}
 use Rattle.call_list.specs.Answers.{wordsOf}
-use Rattle.call_list.specs.WholeList.{CallMade, MadeFrom}
+use Rattle.call_list.specs.WholeList.{CallMade, RowMade, MadeFrom, RowsMade}
 
 -- ---- the answers
 
@@ -137,7 +137,7 @@ module _ (words bytes : List ℕ) (s₀ : State) (store₀ : Store) (answers₀ 
       room-left h room = omega (arith, row-left h, so .word, so .answers-long)
 
       pub one-more : i < length words → length words / 3 ≤ length answers₀ → (r : Row) → r ≡ rowAt words i → (given : RowAnswered) (store′ : Store)
-          → length store′ ≡ length store → ((call : MixedCall) → decodedRow r bytes ≡ some call → CallMade s store call given store′)
+          → length store′ ≡ length store → RowMade s store r bytes given store′
           → (answers′ : List ℕ) → answers′ ≡ sets answers at (given .words .kind ∷ given .words .value ∷ [])
           → MadeSoFar words bytes s₀ store₀ answers₀ (given .state) store′ answers′ (i + 6) (at + 2)
       one-more h room r is given store′ long row answers′ put =
@@ -159,7 +159,7 @@ module _ (words bytes : List ℕ) (s₀ : State) (store₀ : Store) (answers₀ 
             answers-long = ap length put ∙ length-sets answers at (given .words .kind ∷ given .words .value ∷ []) ∙ so .answers-long;
           }
 
-      pub all-made : length words ≤ i → (calls : List MixedCall) → decoded words bytes ≡ some calls → MadeFrom s₀ store₀ answers₀ calls s store answers
+      pub all-made : length words ≤ i → RowsMade s₀ store₀ answers₀ (decoded words bytes) s store answers
       all-made h calls e =
           let none-left = no-calls-left words bytes i (so .rest) (so .left) h in
           let all : so .past ≡ calls =

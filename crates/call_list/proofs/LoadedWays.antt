@@ -12,7 +12,7 @@ use Rattle.base.proofs.Tests.{clash, none-some}
 use Rattle.cluster_list.specs.Read.{readList}
 use Rattle.model.specs.State as states
 use Rattle.model.specs.State.{Store}
-use Rattle.model.specs.Calls.{done, Reply, accepted}
+use Rattle.model.specs.Calls.{done, accepted}
 use Rattle.model.specs.Step as step
 use Rattle.model.specs.Load as model
 use Rattle.model.specs.Load.{tableOrEmpty, isBadLoad}
@@ -37,10 +37,9 @@ use Rattle.call_list.specs.declared.ListReply.the-variants.{Made, BadLoa
 use Rattle.call_list.specs.declared.RepliedList.{RepliedList}
 use Rattle.call_list.specs.Run.{exactMixedStep}
 use Rattle.call_list.specs.Answers.{wordsOf}
-use Rattle.call_list.specs.Replies.{loadReply}
-use Rattle.call_list.specs.WholeList.{replied, listOutcome, outcomeOf, MadeFrom}
+use Rattle.call_list.specs.WholeList.{replied, listOutcome, outcomeOf, MadeFrom, RowsMade}
 use Rattle.call_list.specs.DemandOfCalls.{DemandOfCalls}
-use Rattle.call_list.specs.Loaded.{loadAndRunOutcome, DemandMet}
+use Rattle.call_list.specs.Loaded.{loadAndRunOutcome, DemandMet, DemandMetIfMade, LoadReplied}
 use Rattle.call_list.proofs.RunWays.{given-cases}
 use Rattle.call_list.proofs.DemandLaws.{demand-of-calls}
 
@@ -50,16 +49,10 @@ module _ (s : State) (list : List ℕ) (first : ℕ) (store : Store) (words : Li
   abbrev start : step.Outcome
   start = model.load (viewState s) list first store
 
-  abbrev Said : RepliedList → Type 0
-  Said r = (reply : Reply) → loadReply (r .reply) ≡ some reply → start .reply ≡ reply
-
-  abbrev Met : Option (List MixedCall) → RepliedList → Store → List ℕ → Type 0
-  Met given r store′ words′ =
-      (calls : List MixedCall) → given ≡ some calls → r .reply ≡ Made → DemandMet s list first store words calls (r .state) store′ words′
-
   abbrev Clauses : Option (List MixedCall) → RepliedList → Store → List ℕ → Type 0
   Clauses given r store′ words′ =
-      (listOutcome r store′ words′ ≡ loadAndRunOutcome s list first store words given) × (Said r × Met given r store′ words′)
+      (listOutcome r store′ words′ ≡ loadAndRunOutcome s list first store words given)
+      × (LoadReplied s list first store (r .reply) × DemandMetIfMade s list first store words given r store′ words′)
 
   malformed : (given : Option (List MixedCall)) → isGiven given ≡ false → Clauses given (replied Malformed s) store words
   unfolding loadAndRunOutcome runEvents wordsOf
@@ -154,7 +147,7 @@ module _ (s : State) (list : List ℕ) (first : ℕ) (store : Store) (words rows
 
     pub ends-made : viewOutcome (outcome loaded store′) ≡ model.load (viewState s) list first store → loaded .answer ≡ Done
         → (s′ : State) (store″ : Store) (words′ : List ℕ) → r ≡ replied Made s′
-        → ((calls : List MixedCall) → decoded rows bytes ≡ some calls → MadeFrom (loaded .state) store′ words calls s′ store″ words′)
+        → RowsMade (loaded .state) store′ words (decoded rows bytes) s′ store″ words′
         → Clauses s list first store words (decoded rows bytes) r store″ words′
     ends-made meaning d s′ store″ words′ is m =
         rw is (

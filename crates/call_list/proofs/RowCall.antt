@@ -2,7 +2,7 @@
 use Prim.Native.Nat.{ℕ}
 use mathlib.Core.Path.{_≡_, refl, sym, ap, subst, _∙_}
 use mathlib.Core.List.{List}
-use mathlib.Core.Option.{some, Option·some-injective}
+use mathlib.Core.Option.{Option·some-injective}
 use lib.ListN.{length}
 use Rattle.base.proofs.Tests.{none-some}
 use Rattle.model.specs.State as model
@@ -29,11 +29,11 @@ use Rattle.call_rows.specs.declared.row.RowRequest.{RowRequest}
 use Rattle.call_rows.specs.declared.row.RowRequest.the-variants.{WellFormed, Malformed}
 use Rattle.call_rows.specs.declared.answer_words.AnswerWords.{AnswerWords}
 use Rattle.call_rows.specs.Answers.{answerWords}
-use Rattle.call_rows.specs.Row.{blockOf, mixedOf, requestIn, requestWithin, decodedRow}
+use Rattle.call_rows.specs.Row.{blockOf, mixedOf, requestIn, requestWithin}
 use Rattle.call_rows.proofs.RowListLaws.{row-decoded, row-malformed}
 use Rattle.call_list.specs.declared.RowAnswered.{RowAnswered}
 use Rattle.call_list.specs.Run.{exactMixedStep}
-use Rattle.call_list.specs.WholeList.{rowAnswered, CallMade}
+use Rattle.call_list.specs.WholeList.{rowAnswered, CallMade, RowMade}
 
 -- ---- a call of either kind that was made
 
@@ -67,24 +67,21 @@ module _ (s : State) (store store′ : Store) where
 -- ---- the call of a row
 
 module _ (s : State) (store : Store) (r : Row) (bytes : List ℕ) (answered : RowAnswered) (store′ : Store) where
-  abbrev RowMade : Type 0
-  RowMade = (call : MixedCall) → decodedRow r bytes ≡ some call → CallMade s store call answered store′
-
   module _ (request : RowRequest) (told : requestIn request ≡ requestWithin r (length bytes)) where
     -- a malformed row is no call
-    pub no-row : request ≡ Malformed → RowMade
+    pub no-row : request ≡ Malformed → RowMade s store r bytes answered store′
     no-row is call e = none-some (sym (row-malformed r bytes (sym told ∙ ap requestIn is)) ∙ e)
 
     -- the call that is made is the row's
-    the-row : (mixed : MixedRequest) → request ≡ WellFormed mixed → CallMade s store (mixedOf mixed (blockOf r bytes)) answered store′ → RowMade
+    the-row : (mixed : MixedRequest) → request ≡ WellFormed mixed → CallMade s store (mixedOf mixed (blockOf r bytes)) answered store′ → RowMade s store r bytes answered store′
     the-row mixed is made call e =
         let same = Option·some-injective _ _ (sym (row-decoded r bytes mixed (sym told ∙ ap requestIn is)) ∙ e) in
         subst (λ (x : MixedCall). CallMade s store x answered store′) same made
 
     pub twelve-row : (mixed : MixedRequest) (twelve : Request) (block : List ℕ) → request ≡ WellFormed mixed → mixed ≡ Twelve twelve
-        → block ≡ blockOf r bytes → CallMade s store (ofTwelve (callOf twelve block)) answered store′ → RowMade
+        → block ≡ blockOf r bytes → CallMade s store (ofTwelve (callOf twelve block)) answered store′ → RowMade s store r bytes answered store′
     twelve-row mixed twelve block is kind part made = the-row mixed is (rw (kind, sym part) made)
 
     pub old-row : (mixed : MixedRequest) (old : OldCall) → request ≡ WellFormed mixed → mixed ≡ Old old → CallMade s store (ofFour old) answered store′
-        → RowMade
+        → RowMade s store r bytes answered store′
     old-row mixed old is kind made = the-row mixed is (rw kind made)

@@ -22,20 +22,15 @@ use Rattle.call_rows.proofs.RowListLaws.{six-for-each}
 use Rattle.call_list.specs.declared.ListReply.the-variants.{Made, Malformed, ShortAnswers}
 use Rattle.call_list.specs.declared.RepliedList.{RepliedList}
 use Rattle.call_list.specs.Answers.{wordsOf}
-use Rattle.call_list.specs.WholeList.{replied, listOutcome, outcomeOf, runOutcome, modelOutcomeOf, viewListOutcome, modelRunOutcome, GoesOn, MadeFrom}
+use Rattle.call_list.specs.WholeList.{replied, listOutcome, outcomeOf, runOutcome, modelOutcomeOf, viewListOutcome, modelRunOutcome, GoesOn, GoesOnIfMade, MadeFrom, RowsMade}
 
 -- ---- the three clauses
 
 module _ (s : State) (store : Store) (answers : List ℕ) where
-  abbrev Continues : Option (List MixedCall) → RepliedList → Store → Type 0
-  Continues given r store′ =
-      (calls : List MixedCall) → given ≡ some calls → r .reply ≡ Made → (j : Journal) → Invariant j (viewState s) store
-      → GoesOn j s store calls (r .state) store′
-
   abbrev Clauses : Option (List MixedCall) → RepliedList → Store → List ℕ → Type 0
   Clauses given r store′ answers′ =
       (viewListOutcome (listOutcome r store′ answers′) ≡ modelRunOutcome (viewState s) store answers given)
-      × ((listOutcome r store′ answers′ ≡ runOutcome s store answers given) × Continues given r store′)
+      × ((listOutcome r store′ answers′ ≡ runOutcome s store answers given) × GoesOnIfMade s store given r store′)
 
   malformed : (given : Option (List MixedCall)) → isGiven given ≡ false → Clauses given (replied Malformed s) store answers
   unfolding runOutcome modelRunOutcome runEvents wordsOf
@@ -95,7 +90,7 @@ module _ (s : State) (store : Store) (answers words bytes : List ℕ) (r : Repli
 
   pub ends-made : isGiven (decoded words bytes) ≡ true → length words / 3 ≤ length answers → (s′ : State) (store′ : Store) (answers′ : List ℕ)
       → r ≡ replied Made s′
-      → ((calls : List MixedCall) → decoded words bytes ≡ some calls → MadeFrom s store answers calls s′ store′ answers′)
+      → RowsMade s store answers (decoded words bytes) s′ store′ answers′
       → Clauses s store answers (decoded words bytes) r store′ answers′
   ends-made g h s′ store′ answers′ is m =
       rw is

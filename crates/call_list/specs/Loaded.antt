@@ -14,8 +14,11 @@ use Rattle.model.specs.Layers.{EventRun, eventRun, runEvents, counted}
 use Rattle.state.specs.declared.state.State.{State}
 use Rattle.state.specs.View.{viewState}
 use Rattle.state.specs.Outcome.{Outcome}
-use Rattle.load.specs.Exact.{load}
+use Rattle.load.specs.Exact.{load, modelLoad}
 use Rattle.four_state.specs.MixedLists.{MixedCall, MixedReply, countsAs, MixedMade}
+use Rattle.call_list.specs.declared.ListReply.{ListReply}
+use Rattle.call_list.specs.declared.ListReply.the-variants.{Made}
+use Rattle.call_list.specs.declared.RepliedList.{RepliedList}
 use Rattle.call_list.specs.Run.{exactMixedStep}
 use Rattle.call_list.specs.Answers.{answersAfter}
 use Rattle.call_list.specs.Replies.{loadReply, callsMade, listReply, withLoad, callsGiven}
@@ -51,3 +54,14 @@ pub record DemandMet (given : State) (list : List ℕ) (first : ℕ) (lent : Sto
   pub agrees : AgreesWith (journalOf list made) (viewState s) store
   -- so further calls may go on from it (clause `goes_on` of `call_list::run`)
   pub invariant : Invariant (journalOf list made) (viewState s) store
+
+-- of a list that was made demand 3 is met
+abbrev pub DemandMetIfMade : State → List ℕ → ℕ → Store → List ℕ → Option (List MixedCall) → RepliedList → Store → List ℕ → Type 0
+DemandMetIfMade s list first store answers given r store′ answers′ =
+    (calls : List MixedCall) → given ≡ some calls → r .reply ≡ Made
+    → DemandMet s list first store answers calls (r .state) store′ answers′
+
+-- where Load was made, the reply for the list says what the model's Load replies
+abbrev pub LoadReplied : State → List ℕ → ℕ → Store → ListReply → Type 0
+LoadReplied s list first store whole =
+    (reply : Reply) → loadReply whole ≡ some reply → modelLoad s list first store .reply ≡ reply

@@ -2,7 +2,7 @@
 use Prim.Native.Nat.{ℕ, _*_}
 use mathlib.Core.Path.{_≡_}
 use mathlib.Core.List.{List}
-use mathlib.Core.Option.{Option}
+use mathlib.Core.Option.{Option, some}
 use lib.ListN.{length}
 use Rattle.model.specs.State as model
 use Rattle.model.specs.State.{Store}
@@ -12,9 +12,12 @@ use Rattle.model.specs.Layers.{EventRun, eventOutcome, eventRun, runEvents, vie
 use Rattle.state.specs.declared.state.State.{State}
 use Rattle.state.specs.View.{viewState}
 use Rattle.four_state.specs.MixedLists.{MixedCall, MixedReply, mixedStep, countsAs, MixedMade, mixedRun, MixedDemand}
+use Rattle.call_rows.specs.declared.row.Row.{Row}
 use Rattle.call_rows.specs.declared.answer_words.AnswerWords.{AnswerWords}
+use Rattle.call_rows.specs.Row.{decodedRow}
 use Rattle.call_rows.specs.Answers.{answerWords}
 use Rattle.call_list.specs.declared.ListReply.{ListReply}
+use Rattle.call_list.specs.declared.ListReply.the-variants.{Made}
 use Rattle.call_list.specs.declared.RepliedList.{RepliedList}
 use Rattle.call_list.specs.declared.RowAnswered.{RowAnswered}
 use Rattle.call_list.specs.Run.{exactMixedStep}
@@ -72,6 +75,12 @@ pub record GoesOn (j : Journal) (s : State) (store : Store) (calls : List MixedC
   pub demand3 : MixedDemand j (viewState s) store calls
   pub invariant : Invariant (journal j (countedIn mixedStep countsAs (viewState s) store calls)) (viewState s′) store′
 
+-- of a list that was made: it goes on from each journal that the invariant ties to the state and store before it
+abbrev pub GoesOnIfMade : State → Store → Option (List MixedCall) → RepliedList → Store → Type 0
+GoesOnIfMade s store given r store′ =
+    (calls : List MixedCall) → given ≡ some calls → r .reply ≡ Made → (j : Journal) → Invariant j (viewState s) store
+    → GoesOn j s store calls (r .state) store′
+
 -- ---- on the way
 
 -- the words of a call's answer with the state
@@ -85,6 +94,10 @@ pub record CallMade (s : State) (store : Store) (call : MixedCall) (r : RowAnswe
   pub meaning : eventOutcome answer (viewState (r .state)) store′ ≡ mixedStep (viewState s) store call
   pub exact : eventOutcome answer (r .state) store′ ≡ exactMixedStep s store call
 
+-- the call of a row was made; of a malformed row nothing is said
+abbrev pub RowMade : State → Store → Row → List ℕ → RowAnswered → Store → Type 0
+RowMade s store row bytes r store′ = (call : MixedCall) → decodedRow row bytes ≡ some call → CallMade s store call r store′
+
 -- calls made one after the other from a state and a store, with what they left
 pub record MadeFrom (s₀ : State) (store₀ : Store) (answers₀ : List ℕ) (calls : List MixedCall) (s : State) (store : Store) (answers : List ℕ) : Type 0 where
   pub made : List MixedMade
@@ -92,3 +105,8 @@ pub record MadeFrom (s₀ : State) (store₀ : Store) (answers₀ : List ℕ) (c
   pub meaning : viewRunBy viewState (eventRun made s store) ≡ mixedRun (viewState s₀) store₀ calls
   pub count : length (wordsOf made) ≡ 2 * length calls
   pub written : answers ≡ answersAfter made answers₀
+
+-- the calls of rows were made; of malformed rows nothing is said
+abbrev pub RowsMade : State → Store → List ℕ → Option (List MixedCall) → State → Store → List ℕ → Type 0
+RowsMade s₀ store₀ answers₀ given s store answers =
+    (calls : List MixedCall) → given ≡ some calls → MadeFrom s₀ store₀ answers₀ calls s store answers

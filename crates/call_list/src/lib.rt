@@ -20,20 +20,16 @@ use state::answer::Answer;
 use state::state::State;
 ghost use mathlib.Core.Path.{_≡_};
 ghost use mathlib.Core.Bool.{true};
-ghost use mathlib.Core.List.{List, [], _∷_};
-ghost use mathlib.Core.Option.{some};
+ghost use mathlib.Core.List.{[], _∷_};
 ghost use Prim.Native.Nat.{_+_, _/_, _≤_};
 ghost use lib.ListN.{length};
 ghost use lib.Seq.{sets};
-ghost use Rattle.model.specs.Journal.{Journal};
-ghost use Rattle.model.specs.Invariant.{Invariant};
 ghost use Rattle.request.specs.Call.{callOf};
 ghost use Rattle.state.specs.View.{viewState};
-ghost use Rattle.four_state.specs.MixedLists.{MixedCall, ofTwelve, ofFour};
-ghost use Rattle.call_rows.specs.Row.{decodedRow};
+ghost use Rattle.four_state.specs.MixedLists.{ofTwelve, ofFour};
 ghost use Rattle.call_rows.specs.Rows.{decoded, isGiven};
-ghost use Rattle.call_list.specs.declared.ListReply.the-variants.{Made};
-ghost use Rattle.call_list.specs.WholeList.{replied, listOutcome, runOutcome, viewListOutcome, modelRunOutcome, GoesOn, rowAnswered, CallMade, MadeFrom};
+ghost use Rattle.call_list.specs.WholeList.{replied, listOutcome, runOutcome, viewListOutcome, modelRunOutcome, GoesOnIfMade};
+ghost use Rattle.call_list.specs.WholeList.{rowAnswered, CallMade, RowMade, RowsMade};
 
 // What became of a list of calls: every call was made, or none was, because the list is malformed, the slice for its answers is too short,
 // or Load, where it comes before the list, was refused.
@@ -86,7 +82,7 @@ fn make_old(s: State, store: &[u8], old: OldCall) -> RowAnswered
 
 // The call of a row is made. Of a malformed row nothing is said: `run` looks at all rows before it makes the first call.
 fn make_call(s: State, store: &mut [u8], row: Row, bytes: &[u8]) -> RowAnswered
-    ensures { λ r. ⌜ ((call : MixedCall) → decodedRow row (now (bytes .entry)) ≡ some call → CallMade s (now (store .entry)) call r (now (store .exit))) ⌝ }
+    ensures { λ r. ⌜ RowMade s (now (store .entry)) row (now (bytes .entry)) r (now (store .exit)) ⌝ }
 {
     let RowRequest::WellFormed(request) = row_request(row, bytes.len()) else {
         return row_answered(answer_words(Answer::Refused(BAD_STATE)), s);
@@ -110,7 +106,8 @@ fn put_answer(answers: &mut [u32], at: usize, words: AnswerWords)
 fn make_all(s: State, store: &mut [u8], words: &[u32], bytes: &[u8], answers: &mut [u32]) -> State
     requires { ⌜ isGiven (decoded (now words) (now bytes)) ≡ true ⌝ }
     requires { ⌜ length (now words) / 3 ≤ length (now answers) ⌝ }
-    ensures { λ r. ⌜ ((calls : List MixedCall) → decoded (now (words .entry)) (now (bytes .entry)) ≡ some calls → MadeFrom s (now (store .entry)) (now (answers .entry)) calls r (now (store .exit)) (now (answers .exit))) ⌝ }
+    ensures { λ r. ⌜ RowsMade s (now (store .entry)) (now (answers .entry)) (decoded (now (words .entry)) (now (bytes .entry)))
+        r (now (store .exit)) (now (answers .exit)) ⌝ }
 {
     let mut state = s;
     let mut i = 0;
@@ -145,9 +142,12 @@ pub fn run(
     bytes: &[u8],
     answers: &mut [u32],
 ) -> RepliedList
-    ensures meaning { λ r. ⌜ viewListOutcome (listOutcome r (now (store .exit)) (now (answers .exit))) ≡ modelRunOutcome (viewState s) (now (store .entry)) (now (answers .entry)) (decoded (now (words .entry)) (now (bytes .entry))) ⌝ }
-    ensures exact { λ r. ⌜ listOutcome r (now (store .exit)) (now (answers .exit)) ≡ runOutcome s (now (store .entry)) (now (answers .entry)) (decoded (now (words .entry)) (now (bytes .entry))) ⌝ }
-    ensures goes_on { λ r. ⌜ ((calls : List MixedCall) → decoded (now (words .entry)) (now (bytes .entry)) ≡ some calls → r .reply ≡ Made → (j : Journal) → Invariant j (viewState s) (now (store .entry)) → GoesOn j s (now (store .entry)) calls (r .state) (now (store .exit))) ⌝ }
+    ensures meaning { λ r. ⌜ viewListOutcome (listOutcome r (now (store .exit)) (now (answers .exit)))
+        ≡ modelRunOutcome (viewState s) (now (store .entry)) (now (answers .entry)) (decoded (now (words .entry)) (now (bytes .entry))) ⌝ }
+    ensures exact { λ r. ⌜ listOutcome r (now (store .exit)) (now (answers .exit))
+        ≡ runOutcome s (now (store .entry)) (now (answers .entry)) (decoded (now (words .entry)) (now (bytes .entry))) ⌝ }
+    ensures goes_on { λ r. ⌜ GoesOnIfMade s (now (store .entry)) (decoded (now (words .entry)) (now (bytes .entry)))
+        r (now (store .exit)) ⌝ }
 {
     if !rows_well_formed(words, bytes) {
         return replied(ListReply::Malformed, s);

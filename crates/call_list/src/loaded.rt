@@ -8,17 +8,9 @@ use load::load;
 use state::answer::Answer;
 use state::state::State;
 ghost use mathlib.Core.Path.{_≡_};
-ghost use mathlib.Core.List.{List};
-ghost use mathlib.Core.Option.{some};
-ghost use Rattle.model.specs.Calls.{Reply};
-ghost use Rattle.model.specs.Load.{load};
-ghost use Rattle.state.specs.View.{viewState};
-ghost use Rattle.four_state.specs.MixedLists.{MixedCall};
 ghost use Rattle.call_rows.specs.Rows.{decoded};
-ghost use Rattle.call_list.specs.declared.ListReply.the-variants.{Made};
-ghost use Rattle.call_list.specs.Replies.{loadReply};
 ghost use Rattle.call_list.specs.WholeList.{listOutcome};
-ghost use Rattle.call_list.specs.Loaded.{loadAndRunOutcome, DemandMet};
+ghost use Rattle.call_list.specs.Loaded.{loadAndRunOutcome, DemandMetIfMade, LoadReplied};
 
 // Load, and then every call of the list, each with the state and store that the one before left. A malformed list, one with more calls
 // than there is room for answers, and then a refused Load are refused before anything is changed.
@@ -31,9 +23,12 @@ pub fn load_and_run(
     bytes: &[u8],
     answers: &mut [u32],
 ) -> RepliedList
-    ensures exact { λ r. ⌜ listOutcome r (now (store .exit)) (now (answers .exit)) ≡ loadAndRunOutcome s (now (list .entry)) first (now (store .entry)) (now (answers .entry)) (decoded (now (words .entry)) (now (bytes .entry))) ⌝ }
-    ensures load_reply { λ r. ⌜ ((reply : Reply) → loadReply (r .reply) ≡ some reply → load (viewState s) (now (list .entry)) first (now (store .entry)) .reply ≡ reply) ⌝ }
-    ensures demand3 { λ r. ⌜ ((calls : List MixedCall) → decoded (now (words .entry)) (now (bytes .entry)) ≡ some calls → r .reply ≡ Made → DemandMet s (now (list .entry)) first (now (store .entry)) (now (answers .entry)) calls (r .state) (now (store .exit)) (now (answers .exit))) ⌝ }
+    ensures exact { λ r. ⌜ listOutcome r (now (store .exit)) (now (answers .exit))
+        ≡ loadAndRunOutcome s (now (list .entry)) first (now (store .entry)) (now (answers .entry))
+        (decoded (now (words .entry)) (now (bytes .entry))) ⌝ }
+    ensures load_reply { λ r. ⌜ LoadReplied s (now (list .entry)) first (now (store .entry)) (r .reply) ⌝ }
+    ensures demand3 { λ r. ⌜ DemandMetIfMade s (now (list .entry)) first (now (store .entry)) (now (answers .entry))
+        (decoded (now (words .entry)) (now (bytes .entry))) r (now (store .exit)) (now (answers .exit)) ⌝ }
 {
     if !rows_well_formed(words, bytes) {
         return replied(ListReply::Malformed, s);

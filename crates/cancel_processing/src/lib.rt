@@ -20,9 +20,9 @@ ghost use Rattle.model.specs.Sound.{soundFor};
 ghost use Rattle.model.specs.Step.{step};
 ghost use Rattle.state.specs.View.{viewState};
 ghost use Rattle.state.specs.declared.answer.Answer.the-variants.{Done};
-ghost use Rattle.state.specs.Outcome.{outcome, answered, viewOutcome, SoundIfAccepted, called, calledOnSound};
+ghost use Rattle.state.specs.Outcome.{outcome, answered, viewAnswered, SoundIfAccepted};
 ghost use Rattle.state.specs.Exact.{withWork};
-ghost use Rattle.cancel_processing.specs.Cancel.{withCancelNoted, cancelNoted};
+ghost use Rattle.cancel_processing.specs.Cancel.{withCancelNoted, cancelCalled, cancelCalledOnSound};
 
 // The state with the cancel noted.
 fn note_cancel(s: State) -> Answered
@@ -36,7 +36,7 @@ fn note_cancel(s: State) -> Answered
 // Cancel of a state that is known to be sound, which `cancel` checks.
 pub fn cancel_on_sound(s: State, store: &[u8], id: u32) -> Answered
     requires { ⌜ soundFor (viewState s) (length (now store)) ≡ true ⌝ }
-    ensures { λ r. ⌜ outcome r (now (store .entry)) ≡ calledOnSound s (now (store .entry)) (cancel id) (cancelNoted s (now (store .entry))) ⌝ }
+    ensures { λ r. ⌜ outcome r (now (store .entry)) ≡ cancelCalledOnSound s (now (store .entry)) id ⌝ }
 {
     let phase = s.phase;
     if !allowed(phase, CANCEL) {
@@ -53,8 +53,8 @@ pub fn cancel_on_sound(s: State, store: &[u8], id: u32) -> Answered
 
 // Cancel(id): notes the cancel until Processing ends.
 pub fn cancel(s: State, store: &[u8], id: u32) -> Answered
-    ensures meaning { λ r. ⌜ viewOutcome (outcome r (now (store .entry))) ≡ step (viewState s) (now (store .entry)) (cancel id) ⌝ }
-    ensures exact { λ r. ⌜ outcome r (now (store .entry)) ≡ called s (now (store .entry)) (cancel id) (cancelNoted s (now (store .entry))) ⌝ }
+    ensures meaning { λ r. ⌜ viewAnswered r (now (store .entry)) ≡ step (viewState s) (now (store .entry)) (cancel id) ⌝ }
+    ensures exact { λ r. ⌜ outcome r (now (store .entry)) ≡ cancelCalled s (now (store .entry)) id ⌝ }
     ensures sound { λ r. ⌜ SoundIfAccepted (outcome r (now (store .entry))) ⌝ }
 {
     if !sound(s, store.len()) {

@@ -26,8 +26,8 @@ ghost use Rattle.model.specs.Calls.{deleteTransfer};
 ghost use Rattle.model.specs.Sound.{packagesMost, soundFor};
 ghost use Rattle.model.specs.Step.{step, deleteRefusals};
 ghost use Rattle.state.specs.View.{viewPackageState, viewPackages, viewState};
-ghost use Rattle.state.specs.Outcome.{outcome, viewOutcome, SoundIfAccepted, called, calledOnSound};
-ghost use Rattle.delete_transfer.specs.Delete.{withoutTransfer};
+ghost use Rattle.state.specs.Outcome.{outcome, viewAnswered, SoundIfAccepted};
+ghost use Rattle.delete_transfer.specs.Delete.{withoutTransfer, deleteCalled, deleteCalledOnSound};
 
 // The number of DeleteTransfer's own refusal behind 4 if it applies, or 0.
 fn delete_refusal(state: PackageState) -> u32
@@ -56,7 +56,7 @@ fn take_out(s: State, store: &mut [u8], id: u32) -> Answered
 // DeleteTransfer of a state that is known to be sound, which `delete_transfer` checks.
 pub fn delete_transfer_on_sound(s: State, store: &mut [u8], id: u32) -> Answered
     requires { ⌜ soundFor (viewState s) (length (now store)) ≡ true ⌝ }
-    ensures { λ r. ⌜ outcome r (now (store .exit)) ≡ calledOnSound s (now (store .entry)) (deleteTransfer id) (withoutTransfer s (now (store .entry)) id) ⌝ }
+    ensures { λ r. ⌜ outcome r (now (store .exit)) ≡ deleteCalledOnSound s (now (store .entry)) id ⌝ }
 {
     let phase = s.phase;
     let t = s.transfers;
@@ -77,8 +77,8 @@ pub fn delete_transfer_on_sound(s: State, store: &mut [u8], id: u32) -> Answered
 
 // DeleteTransfer(id): the package is taken out, and later areas move down.
 pub fn delete_transfer(s: State, store: &mut [u8], id: u32) -> Answered
-    ensures meaning { λ r. ⌜ viewOutcome (outcome r (now (store .exit))) ≡ step (viewState s) (now (store .entry)) (deleteTransfer id) ⌝ }
-    ensures exact { λ r. ⌜ outcome r (now (store .exit)) ≡ called s (now (store .entry)) (deleteTransfer id) (withoutTransfer s (now (store .entry)) id) ⌝ }
+    ensures meaning { λ r. ⌜ viewAnswered r (now (store .exit)) ≡ step (viewState s) (now (store .entry)) (deleteTransfer id) ⌝ }
+    ensures exact { λ r. ⌜ outcome r (now (store .exit)) ≡ deleteCalled s (now (store .entry)) id ⌝ }
     ensures sound { λ r. ⌜ SoundIfAccepted (outcome r (now (store .exit))) ⌝ }
 {
     if !sound(s, store.len()) {

@@ -4,9 +4,10 @@ use mathlib.Core.Path.{_≡_}
 use mathlib.Core.Bool.{true, cond}
 use mathlib.Core.Option.{Option}
 use Rattle.base.specs.Refusals.{firstRefusal}
+use Rattle.model.specs.State as model
 use Rattle.model.specs.State.{Store}
 use Rattle.model.specs.Sound.{sound}
-use Rattle.model.specs.Layers.{EventOutcome, eventOutcome}
+use Rattle.model.specs.Layers.{EventOutcome, eventOutcome, viewOutcomeBy}
 use Rattle.state.specs.declared.state.State.{State}
 use Rattle.state.specs.declared.answer.Answered.{Answered}
 use Rattle.state.specs.View.{viewState}
@@ -23,6 +24,10 @@ oldAnswered answer s = record { answer = answer; state = s }
 -- what an old call gives: its answer, and the state and store then
 abbrev pub oldOutcome : OldAnswered → Store → EventOutcome State ℕ
 oldOutcome r store = eventOutcome (r .answer) (r .state) store
+
+-- the same as the model has it
+abbrev pub viewOldAnswered : OldAnswered → Store → EventOutcome model.State ℕ
+viewOldAnswered r store = viewOutcomeBy viewState (oldOutcome r store)
 
 -- by what the twelve's call gave: 0 where it was accepted, and a number "for any other refusal"
 abbrev pub answeredBy : Answered → ℕ → OldAnswered

@@ -19,11 +19,10 @@ ghost use lib.ListN.{length};
 ghost use Rattle.clusters.specs.Table.{needsMet};
 ghost use Rattle.model.specs.Tables.{staged};
 ghost use Rattle.model.specs.Sound.{sessionSound, soundFor};
-ghost use Rattle.model.specs.Layers.{viewOutcomeBy};
 ghost use Rattle.state.specs.View.{viewPhase, entriesMost, viewSession, viewState};
 ghost use Rattle.four_state.specs.declared.call.OldCall.the-variants.{Activate};
 ghost use Rattle.four_state.specs.OldCalls.{isReady, oldStep};
-ghost use Rattle.four_state.specs.Exact.{oldOutcome, exactOldStep, answeredOnSound, SoundIfZero};
+ghost use Rattle.four_state.specs.Exact.{oldOutcome, viewOldAnswered, exactOldStep, answeredOnSound, SoundIfZero};
 
 // Source document 002's numbers.
 const NO_PROCESSED_PACKAGES: u8 = 1;
@@ -61,7 +60,7 @@ fn old_activate_on_sound(s: State, store: &[u8]) -> OldAnswered
 
 // Activate: as the twelve's, and only with all needs met in the staged table.
 pub fn activate(s: State, store: &[u8]) -> OldAnswered
-    ensures meaning { λ r. ⌜ viewOutcomeBy viewState (oldOutcome r (now (store .entry))) ≡ oldStep (viewState s) (now (store .entry)) Activate ⌝ }
+    ensures meaning { λ r. ⌜ viewOldAnswered r (now (store .entry)) ≡ oldStep (viewState s) (now (store .entry)) Activate ⌝ }
     ensures exact { λ r. ⌜ oldOutcome r (now (store .entry)) ≡ exactOldStep s (now (store .entry)) Activate ⌝ }
     ensures sound { λ r. ⌜ SoundIfZero (oldOutcome r (now (store .entry))) ⌝ }
 {

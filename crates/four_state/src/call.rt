@@ -6,10 +6,9 @@ use crate::revert::revert;
 use crate::rollback::rollback;
 use state::state::State;
 ghost use mathlib.Core.Path.{_≡_};
-ghost use Rattle.model.specs.Layers.{viewOutcomeBy};
 ghost use Rattle.state.specs.View.{viewState};
 ghost use Rattle.four_state.specs.OldCalls.{oldStep};
-ghost use Rattle.four_state.specs.Exact.{oldOutcome, exactOldStep, SoundIfZero};
+ghost use Rattle.four_state.specs.Exact.{oldOutcome, viewOldAnswered, exactOldStep, SoundIfZero};
 
 // The four that change the state. Cancel has a transfer id.
 pub enum OldCall {
@@ -21,7 +20,7 @@ pub enum OldCall {
 
 // One of the four, from any state and bytes.
 pub fn old_call(s: State, store: &[u8], call: OldCall) -> OldAnswered
-    ensures meaning { λ r. ⌜ viewOutcomeBy viewState (oldOutcome r (now (store .entry))) ≡ oldStep (viewState s) (now (store .entry)) call ⌝ }
+    ensures meaning { λ r. ⌜ viewOldAnswered r (now (store .entry)) ≡ oldStep (viewState s) (now (store .entry)) call ⌝ }
     ensures exact { λ r. ⌜ oldOutcome r (now (store .entry)) ≡ exactOldStep s (now (store .entry)) call ⌝ }
     ensures sound { λ r. ⌜ SoundIfZero (oldOutcome r (now (store .entry))) ⌝ }
 {

@@ -8,11 +8,10 @@ use state::phase::IDLE;
 use state::phase::phase_number;
 use state::state::State;
 ghost use mathlib.Core.Path.{_≡_};
-ghost use Rattle.model.specs.Layers.{viewOutcomeBy};
 ghost use Rattle.state.specs.View.{viewState};
 ghost use Rattle.four_state.specs.declared.call.OldCall.the-variants.{Revert};
 ghost use Rattle.four_state.specs.OldCalls.{oldStep};
-ghost use Rattle.four_state.specs.Exact.{oldOutcome, exactOldStep, SoundIfZero};
+ghost use Rattle.four_state.specs.Exact.{oldOutcome, viewOldAnswered, exactOldStep, SoundIfZero};
 
 // Source document 002's numbers.
 const NOTHING_TO_REVERT: u8 = 1;
@@ -21,7 +20,7 @@ const NOT_ABLE_TO_REVERT: u8 = 2;
 
 // Revert of the processed packages.
 pub fn revert(s: State, store: &[u8]) -> OldAnswered
-    ensures meaning { λ r. ⌜ viewOutcomeBy viewState (oldOutcome r (now (store .entry))) ≡ oldStep (viewState s) (now (store .entry)) Revert ⌝ }
+    ensures meaning { λ r. ⌜ viewOldAnswered r (now (store .entry)) ≡ oldStep (viewState s) (now (store .entry)) Revert ⌝ }
     ensures exact { λ r. ⌜ oldOutcome r (now (store .entry)) ≡ exactOldStep s (now (store .entry)) Revert ⌝ }
     ensures sound { λ r. ⌜ SoundIfZero (oldOutcome r (now (store .entry))) ⌝ }
 {

@@ -9,11 +9,10 @@ use state::phase::READY;
 use state::phase::phase_number;
 use state::state::State;
 ghost use mathlib.Core.Path.{_≡_};
-ghost use Rattle.model.specs.Layers.{viewOutcomeBy};
 ghost use Rattle.state.specs.View.{viewState};
 ghost use Rattle.four_state.specs.declared.call.OldCall.the-variants.{Rollback};
 ghost use Rattle.four_state.specs.OldCalls.{oldStep};
-ghost use Rattle.four_state.specs.Exact.{oldOutcome, exactOldStep, SoundIfZero};
+ghost use Rattle.four_state.specs.Exact.{oldOutcome, viewOldAnswered, exactOldStep, SoundIfZero};
 
 // Source document 002's numbers.
 const NOTHING_TO_ROLL_BACK: u8 = 1;
@@ -22,7 +21,7 @@ const NOT_ABLE_TO_ROLL_BACK: u8 = 2;
 
 // Rollback of the activated packages.
 pub fn rollback(s: State, store: &[u8]) -> OldAnswered
-    ensures meaning { λ r. ⌜ viewOutcomeBy viewState (oldOutcome r (now (store .entry))) ≡ oldStep (viewState s) (now (store .entry)) Rollback ⌝ }
+    ensures meaning { λ r. ⌜ viewOldAnswered r (now (store .entry)) ≡ oldStep (viewState s) (now (store .entry)) Rollback ⌝ }
     ensures exact { λ r. ⌜ oldOutcome r (now (store .entry)) ≡ exactOldStep s (now (store .entry)) Rollback ⌝ }
     ensures sound { λ r. ⌜ SoundIfZero (oldOutcome r (now (store .entry))) ⌝ }
 {

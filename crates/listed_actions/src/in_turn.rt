@@ -11,19 +11,13 @@ use state::limits::ENTRIES_MOST;
 use state::session::Entry;
 use text::version::Version;
 ghost use mathlib.Core.Path.{_≡_};
-ghost use mathlib.Core.Bool.{true};
-ghost use mathlib.Core.List.{[]};
 ghost use Prim.Native.Nat.{_+_, _≤_, _<_};
 ghost use Rattle.place_in_list.specs.Place.{placeOr};
 ghost use Rattle.clusters.specs.Cluster.{Cluster as PlainCluster};
-ghost use Rattle.clusters.specs.Table.{Table as PlainTable, tableWithin, clustersMost};
-ghost use Rattle.clusters.specs.Columns.{ColumnsOf};
-ghost use Rattle.actions.specs.Action.{actionsWithin};
-ghost use Rattle.actions.specs.Refusals.{passInTurn};
+ghost use Rattle.clusters.specs.Table.{clustersMost};
 ghost use Rattle.actions.specs.View.{actionOf};
 ghost use Rattle.state.specs.View.{entriesMost};
-ghost use Rattle.listed_actions.specs.Listed.{listedActions};
-ghost use Rattle.listed_actions.specs.InTurn.{stagedAt, stagedAfter};
+ghost use Rattle.listed_actions.specs.InTurn.{stagedAt, stagedAfter, PassesInTurn};
 
 // A place to read a version and a mark at: the cluster's in the columns, and the first where it is not there.
 fn place_or_first(place: Found) -> usize
@@ -63,7 +57,7 @@ fn staged_after(change: Change, staged: usize) -> usize
 // actions are within their limits; soundness checks that before, and that the counts fit.
 pub fn pass_in_turn(columns: Columns, entries: [Entry; ENTRIES_MOST], count: usize) -> bool
     requires { ⌜ (columns .count ≤ clustersMost) × (count ≤ entriesMost) ⌝ }
-    ensures { λ r. ⌜ ((t : PlainTable) → ColumnsOf columns t → tableWithin t ≡ true → actionsWithin (listedActions entries count) ≡ true → r ≡ passInTurn t [] (listedActions entries count)) ⌝ }
+    ensures { λ r. ⌜ PassesInTurn columns entries count r ⌝ }
 {
     let listed = entry_columns(entries, count);
     let clusters = columns.count;

@@ -6,9 +6,12 @@ use Rattle.base.specs.Refusals.{refuse_when_, firstRefusal}
 use Rattle.clusters.specs.Struct.{structTable}
 use Rattle.cluster_list.specs.Read.{readList}
 use Rattle.model.specs.State.{Store}
+use Rattle.model.specs.Step as step
+use Rattle.model.specs.Load as model
 use Rattle.model.specs.Load.{tableOrEmpty, isBadLoad}
 use Rattle.state.specs.declared.state.State.{State}
 use Rattle.state.specs.declared.answer.Answer.the-variants.{Done}
+use Rattle.state.specs.View.{viewState}
 use Rattle.state.specs.Exact.{loadedState}
 use Rattle.state.specs.Outcome.{Outcome, outcome, answered, settled}
 
@@ -18,3 +21,7 @@ load s list first store =
     settled s store
     (firstRefusal ((refuse 20 when isBadLoad list first store) ∷ []))
     (outcome (answered Done (loadedState (structTable (tableOrEmpty (readList list))) first)) (replicate (length store) 0))
+
+-- the same in the model
+abbrev pub modelLoad : State → List ℕ → ℕ → Store → step.Outcome
+modelLoad s list first store = model.load (viewState s) list first store

@@ -11,14 +11,12 @@ use state::limits::STORE_MOST;
 use state::state::State;
 use state::state::loaded_state;
 ghost use mathlib.Core.Path.{_≡_};
-ghost use Rattle.model.specs.Load as model;
-ghost use Rattle.state.specs.View.{viewState};
-ghost use Rattle.state.specs.Outcome.{outcome, viewOutcome, SoundIfAccepted};
-ghost use Rattle.load.specs.Exact.{load};
+ghost use Rattle.state.specs.Outcome.{outcome, viewAnswered, SoundIfAccepted};
+ghost use Rattle.load.specs.Exact.{load, modelLoad};
 
 // The refusals that are cheap to see come first: they all have one number.
 pub fn load(s: State, list: &[u8], first: u32, store: &mut [u8]) -> Answered
-    ensures meaning { λ r. ⌜ viewOutcome (outcome r (now (store .exit))) ≡ model.load (viewState s) (now (list .entry)) first (now (store .entry)) ⌝ }
+    ensures meaning { λ r. ⌜ viewAnswered r (now (store .exit)) ≡ modelLoad s (now (list .entry)) first (now (store .entry)) ⌝ }
     ensures exact { λ r. ⌜ outcome r (now (store .exit)) ≡ load s (now (list .entry)) first (now (store .entry)) ⌝ }
     ensures sound { λ r. ⌜ SoundIfAccepted (outcome r (now (store .exit))) ⌝ }
 {

@@ -21,16 +21,15 @@ ghost use mathlib.Core.Path.{_≡_};
 ghost use mathlib.Core.Bool.{true};
 ghost use lib.ListN.{length};
 ghost use Rattle.model.specs.Sound.{soundFor};
-ghost use Rattle.model.specs.Step.{step};
 ghost use Rattle.request.specs.Call.{callOf};
 ghost use Rattle.state.specs.View.{viewState};
-ghost use Rattle.state.specs.Outcome.{outcome, viewOutcome, SoundIfAccepted, calledOnSound};
-ghost use Rattle.manager.specs.Accepts.{accepts, exactStep};
+ghost use Rattle.state.specs.Outcome.{outcome, viewAnswered, SoundIfAccepted};
+ghost use Rattle.manager.specs.Accepts.{exactStep, exactStepOnSound, requestStep};
 
 // A call of a state that is known to be sound, which `call` checks. Only TransferData has a block.
 fn call_on_sound(s: State, store: &mut [u8], request: Request, block: &[u8]) -> Answered
     requires { ⌜ soundFor (viewState s) (length (now store)) ≡ true ⌝ }
-    ensures { λ r. ⌜ outcome r (now (store .exit)) ≡ calledOnSound s (now (store .entry)) (callOf request (now (block .entry))) (accepts s (now (store .entry)) (callOf request (now (block .entry)))) ⌝ }
+    ensures { λ r. ⌜ outcome r (now (store .exit)) ≡ exactStepOnSound s (now (store .entry)) (callOf request (now (block .entry))) ⌝ }
 {
     match request {
         Request::TransferStart(size) => transfer_start_on_sound(s, store, size),
@@ -50,7 +49,7 @@ fn call_on_sound(s: State, store: &mut [u8], request: Request, block: &[u8]) -> 
 
 // One of the twelve changing calls, from any state and bytes.
 pub fn call(s: State, store: &mut [u8], request: Request, block: &[u8]) -> Answered
-    ensures meaning { λ r. ⌜ viewOutcome (outcome r (now (store .exit))) ≡ step (viewState s) (now (store .entry)) (callOf request (now (block .entry))) ⌝ }
+    ensures meaning { λ r. ⌜ viewAnswered r (now (store .exit)) ≡ requestStep s (now (store .entry)) request (now (block .entry)) ⌝ }
     ensures exact { λ r. ⌜ outcome r (now (store .exit)) ≡ exactStep s (now (store .entry)) (callOf request (now (block .entry))) ⌝ }
     ensures sound { λ r. ⌜ SoundIfAccepted (outcome r (now (store .exit))) ⌝ }
 {

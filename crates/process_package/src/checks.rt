@@ -20,17 +20,15 @@ use state::work::cleared_work;
 ghost use mathlib.Core.Path.{_≡_};
 ghost use mathlib.Core.Bool.{true};
 ghost use Prim.Native.Nat.{_≤_, _<_};
-ghost use lib.ListN.{length, take, drop};
+ghost use lib.ListN.{length};
 ghost use Rattle.actions.specs.Refusals.{touched, actionRefusal};
 ghost use Rattle.actions.specs.View.{viewAction};
-ghost use Rattle.manifest.specs.Package.{readPackage};
 ghost use Rattle.model.specs.State.{actions};
-ghost use Rattle.model.specs.Areas.{declared};
 ghost use Rattle.model.specs.Tables.{staged};
 ghost use Rattle.model.specs.Sound.{sessionSound};
-ghost use Rattle.state.specs.View.{viewPackageState, viewPackages, entriesMost, viewEntries, viewSession};
+ghost use Rattle.state.specs.View.{viewPackageState, entriesMost, viewEntries, viewSession};
 ghost use Rattle.listed_actions.specs.Listed.{listedActions};
-ghost use Rattle.areas.specs.Inside.{AreaInside};
+ghost use Rattle.areas.specs.Inside.{AreaInside, readAt};
 ghost use Rattle.process_package.specs.Process.{workOfPackage, refusedCheck, checked};
 
 // The number of the first refusal behind 4 that applies, or 0, and the values that are kept, which are cleared when refused.
@@ -94,7 +92,7 @@ fn refused_check(number: u32) -> Checked
 // what is required.
 pub fn check_package(t: Transfers, i: usize, p: Package, store: &[u8], session: Session) -> Checked
     requires { ⌜ AreaInside t i p (length (now store)) × ((session .count ≤ entriesMost) × (sessionSound (viewSession session) ≡ true)) ⌝ }
-    ensures { λ r. ⌜ r ≡ checked (viewPackageState (p .state)) (readPackage (take (p .size) (drop (declared (take i (viewPackages t))) (now (store .entry))))) (viewSession session) ⌝ }
+    ensures { λ r. ⌜ r ≡ checked (viewPackageState (p .state)) (readAt t i p (now (store .entry))) (viewSession session) ⌝ }
 {
     let state = p.state;
     if !is_transferred(state) {

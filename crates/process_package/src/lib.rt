@@ -27,17 +27,13 @@ ghost use Rattle.model.specs.Calls.{process};
 ghost use Rattle.model.specs.Sound.{packagesMost, soundFor};
 ghost use Rattle.model.specs.Step.{step};
 ghost use Rattle.state.specs.View.{viewState};
-ghost use Rattle.state.specs.declared.answer.Answer.the-variants.{Done};
-ghost use Rattle.state.specs.declared.package.PackageState.the-variants as packageState;
-ghost use Rattle.state.specs.declared.phase.Phase.the-variants as phase;
-ghost use Rattle.state.specs.Exact.{inState, withPackage, state};
-ghost use Rattle.state.specs.Outcome.{outcome, answered, viewOutcome, SoundIfAccepted, called, calledOnSound};
-ghost use Rattle.process_package.specs.Process.{processingBegun};
+ghost use Rattle.state.specs.Outcome.{outcome, viewAnswered, SoundIfAccepted};
+ghost use Rattle.process_package.specs.Process.{processingBegunAt, processCalled, processCalledOnSound};
 
 // The package p at i is Processing, with the values that are kept of it. A place that was found meets what is required.
 fn begin_processing(s: State, i: usize, p: Package, work: Work) -> Answered
     requires { ⌜ i < packagesMost ⌝ }
-    ensures { λ r. ⌜ r ≡ answered Done (state phase.Processing (withPackage i (inState packageState.Processing p) (s .transfers)) (s .session) work) ⌝ }
+    ensures { λ r. ⌜ r ≡ processingBegunAt s i p work ⌝ }
 {
     let t = s.transfers;
     let transfers = with_package(t, i, in_state(p, PackageState::Processing));
@@ -54,7 +50,7 @@ fn begin_processing(s: State, i: usize, p: Package, work: Work) -> Answered
 // Process of a state that is known to be sound, which `process` checks.
 pub fn process_on_sound(s: State, store: &[u8], id: u32) -> Answered
     requires { ⌜ soundFor (viewState s) (length (now store)) ≡ true ⌝ }
-    ensures { λ r. ⌜ outcome r (now (store .entry)) ≡ calledOnSound s (now (store .entry)) (process id) (processingBegun s (now (store .entry)) id) ⌝ }
+    ensures { λ r. ⌜ outcome r (now (store .entry)) ≡ processCalledOnSound s (now (store .entry)) id ⌝ }
 {
     let phase = s.phase;
     if is_processing(phase) {
@@ -80,8 +76,8 @@ pub fn process_on_sound(s: State, store: &[u8], id: u32) -> Answered
 
 // Process(id): from Idle or Ready to Processing.
 pub fn process(s: State, store: &[u8], id: u32) -> Answered
-    ensures meaning { λ r. ⌜ viewOutcome (outcome r (now (store .entry))) ≡ step (viewState s) (now (store .entry)) (process id) ⌝ }
-    ensures exact { λ r. ⌜ outcome r (now (store .entry)) ≡ called s (now (store .entry)) (process id) (processingBegun s (now (store .entry)) id) ⌝ }
+    ensures meaning { λ r. ⌜ viewAnswered r (now (store .entry)) ≡ step (viewState s) (now (store .entry)) (process id) ⌝ }
+    ensures exact { λ r. ⌜ outcome r (now (store .entry)) ≡ processCalled s (now (store .entry)) id ⌝ }
     ensures sound { λ r. ⌜ SoundIfAccepted (outcome r (now (store .entry))) ⌝ }
 {
     if !sound(s, store.len()) {

@@ -6,6 +6,7 @@ use Rattle.clusters.specs.View.{viewTable}
 use Rattle.model.specs.State.{Store}
 use Rattle.model.specs.Areas.{declared, deleted}
 use Rattle.model.specs.Sound.{packagesMost}
+use Rattle.model.specs.Calls.{report}
 use Rattle.state.specs.declared.phase.RollbackOrigin.{RollbackOrigin}
 use Rattle.state.specs.declared.phase.RollbackOrigin.the-variants as rollback
 use Rattle.state.specs.declared.phase.CleanUpOrigin.{CleanUpOrigin}
@@ -18,7 +19,7 @@ use Rattle.state.specs.declared.answer.Answer.the-variants.{Done, PreActivation
 use Rattle.state.specs.declared.answer.Answered.{Answered}
 use Rattle.state.specs.View.{viewPackages, entriesMost}
 use Rattle.state.specs.Exact.{newSession, state, inPhase}
-use Rattle.state.specs.Outcome.{Outcome, outcome, answered, refusedBy}
+use Rattle.state.specs.Outcome.{Outcome, outcome, answered, refusedBy, called, calledOnSound}
 use Rattle.areas.specs.declared.deletion.Deletion.the-variants.{AllProcessed}
 use Rattle.areas.specs.Deletion.{keeps, remainingTransfers}
 use Rattle.staging.specs.Staged.{stagedTable, runningTable}
@@ -94,3 +95,11 @@ phaseReported s store Ready good = outcome (refusedBy s 3) store
 phaseReported s store Processing good = outcome (refusedBy s 3) store
 phaseReported s store Activated good = outcome (refusedBy s 3) store
 phaseReported s store RolledBack good = outcome (refusedBy s 3) store
+
+-- Report(good or bad): refused as the model refuses it, or accepted
+abbrev pub reportCalled : State → Store → Bool → Outcome
+reportCalled s store good = called s store (report good) (phaseReported s store (s .phase) good)
+
+-- the same after refusal 1, of a sound state
+abbrev pub reportCalledOnSound : State → Store → Bool → Outcome
+reportCalledOnSound s store good = calledOnSound s store (report good) (phaseReported s store (s .phase) good)

@@ -30,9 +30,11 @@ ghost use Rattle.model.specs.Calls.{report};
 ghost use Rattle.model.specs.Sound.{sessionSound, soundFor};
 ghost use Rattle.model.specs.Step.{step};
 ghost use Rattle.state.specs.View.{entriesMost, viewSession, viewState};
-ghost use Rattle.state.specs.Outcome.{outcome, viewOutcome, SoundIfAccepted, called, calledOnSound};
+ghost use Rattle.state.specs.Outcome.{outcome, viewAnswered, SoundIfAccepted};
 ghost use Rattle.staging.specs.Staged.{stagedTable};
-ghost use Rattle.report.specs.Reported.{CleanUpFits, activatingReported, verifyingReported, rollbackPhase, rollingBackReported, cleanedUp, failedAnswer, failedPhase, cleaningUpReported, phaseReported};
+ghost use Rattle.report.specs.Reported.{CleanUpFits, activatingReported, verifyingReported, rollbackPhase, rollingBackReported};
+ghost use Rattle.report.specs.Reported.{cleanedUp, failedAnswer, failedPhase, cleaningUpReported, phaseReported};
+ghost use Rattle.report.specs.Reported.{reportCalled, reportCalledOnSound};
 
 // In Activating. An unmet need of the staged table is answered before a bad report: a missing package is looked for first.
 fn answer_activating(s: State, good: bool, met: bool) -> Answered
@@ -167,7 +169,7 @@ fn report_in(s: State, store: &mut [u8], phase: Phase, good: bool) -> Answered
 // Report of a state that is known to be sound, which `report` checks.
 pub fn report_on_sound(s: State, store: &mut [u8], good: bool) -> Answered
     requires { ⌜ soundFor (viewState s) (length (now store)) ≡ true ⌝ }
-    ensures { λ r. ⌜ outcome r (now (store .exit)) ≡ calledOnSound s (now (store .entry)) (report good) (phaseReported s (now (store .entry)) (s .phase) good) ⌝ }
+    ensures { λ r. ⌜ outcome r (now (store .exit)) ≡ reportCalledOnSound s (now (store .entry)) good ⌝ }
 {
     let phase = s.phase;
     if !allowed(phase, REPORT) {
@@ -178,8 +180,8 @@ pub fn report_on_sound(s: State, store: &mut [u8], good: bool) -> Answered
 
 // Report(good or bad), from the machine.
 pub fn report(s: State, store: &mut [u8], good: bool) -> Answered
-    ensures meaning { λ r. ⌜ viewOutcome (outcome r (now (store .exit))) ≡ step (viewState s) (now (store .entry)) (report good) ⌝ }
-    ensures exact { λ r. ⌜ outcome r (now (store .exit)) ≡ called s (now (store .entry)) (report good) (phaseReported s (now (store .entry)) (s .phase) good) ⌝ }
+    ensures meaning { λ r. ⌜ viewAnswered r (now (store .exit)) ≡ step (viewState s) (now (store .entry)) (report good) ⌝ }
+    ensures exact { λ r. ⌜ outcome r (now (store .exit)) ≡ reportCalled s (now (store .entry)) good ⌝ }
     ensures sound { λ r. ⌜ SoundIfAccepted (outcome r (now (store .exit))) ⌝ }
 {
     if !sound(s, store.len()) {

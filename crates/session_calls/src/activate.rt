@@ -14,21 +14,21 @@ ghost use Rattle.model.specs.Calls.{activate};
 ghost use Rattle.model.specs.Sound.{soundFor};
 ghost use Rattle.model.specs.Step.{step};
 ghost use Rattle.state.specs.View.{viewState};
-ghost use Rattle.state.specs.Outcome.{outcome, viewOutcome, SoundIfAccepted, called, calledOnSound};
-ghost use Rattle.session_calls.specs.Moved.{activating};
+ghost use Rattle.state.specs.Outcome.{outcome, viewAnswered, SoundIfAccepted};
+ghost use Rattle.session_calls.specs.Moved.{activateCalled, activateCalledOnSound};
 
 // Activate of a state that is known to be sound, which `activate` checks.
 pub fn activate_on_sound(s: State, store: &[u8]) -> Answered
     requires { ⌜ soundFor (viewState s) (length (now store)) ≡ true ⌝ }
-    ensures { λ r. ⌜ outcome r (now (store .entry)) ≡ calledOnSound s (now (store .entry)) activate (activating s (now (store .entry))) ⌝ }
+    ensures { λ r. ⌜ outcome r (now (store .entry)) ≡ activateCalledOnSound s (now (store .entry)) ⌝ }
 {
     move_to(s, ACTIVATE, Phase::Activating)
 }
 
 // Activate: Ready to Activating.
 pub fn activate(s: State, store: &[u8]) -> Answered
-    ensures meaning { λ r. ⌜ viewOutcome (outcome r (now (store .entry))) ≡ step (viewState s) (now (store .entry)) activate ⌝ }
-    ensures exact { λ r. ⌜ outcome r (now (store .entry)) ≡ called s (now (store .entry)) activate (activating s (now (store .entry))) ⌝ }
+    ensures meaning { λ r. ⌜ viewAnswered r (now (store .entry)) ≡ step (viewState s) (now (store .entry)) activate ⌝ }
+    ensures exact { λ r. ⌜ outcome r (now (store .entry)) ≡ activateCalled s (now (store .entry)) ⌝ }
     ensures sound { λ r. ⌜ SoundIfAccepted (outcome r (now (store .entry))) ⌝ }
 {
     if !sound(s, store.len()) {

@@ -17,8 +17,8 @@ ghost use Rattle.model.specs.Calls.{finish};
 ghost use Rattle.model.specs.Sound.{soundFor};
 ghost use Rattle.model.specs.Step.{step};
 ghost use Rattle.state.specs.View.{viewState};
-ghost use Rattle.state.specs.Outcome.{outcome, viewOutcome, SoundIfAccepted, called, calledOnSound};
-ghost use Rattle.session_calls.specs.Moved.{finishOrigin, finishing};
+ghost use Rattle.state.specs.Outcome.{outcome, viewAnswered, SoundIfAccepted};
+ghost use Rattle.session_calls.specs.Moved.{finishOrigin, finishCalled, finishCalledOnSound};
 
 // Where CleaningUp comes from: of the two states that allow Finish, Activated or else RolledBack.
 fn finish_origin(phase: Phase) -> CleanUpOrigin
@@ -33,7 +33,7 @@ fn finish_origin(phase: Phase) -> CleanUpOrigin
 // Finish of a state that is known to be sound, which `finish` checks.
 pub fn finish_on_sound(s: State, store: &[u8]) -> Answered
     requires { ⌜ soundFor (viewState s) (length (now store)) ≡ true ⌝ }
-    ensures { λ r. ⌜ outcome r (now (store .entry)) ≡ calledOnSound s (now (store .entry)) finish (finishing s (now (store .entry))) ⌝ }
+    ensures { λ r. ⌜ outcome r (now (store .entry)) ≡ finishCalledOnSound s (now (store .entry)) ⌝ }
 {
     let phase = s.phase;
     move_to(s, FINISH, Phase::CleaningUp(finish_origin(phase)))
@@ -41,8 +41,8 @@ pub fn finish_on_sound(s: State, store: &[u8]) -> Answered
 
 // Finish: Activated or RolledBack to CleaningUp, which keeps where it came from.
 pub fn finish(s: State, store: &[u8]) -> Answered
-    ensures meaning { λ r. ⌜ viewOutcome (outcome r (now (store .entry))) ≡ step (viewState s) (now (store .entry)) finish ⌝ }
-    ensures exact { λ r. ⌜ outcome r (now (store .entry)) ≡ called s (now (store .entry)) finish (finishing s (now (store .entry))) ⌝ }
+    ensures meaning { λ r. ⌜ viewAnswered r (now (store .entry)) ≡ step (viewState s) (now (store .entry)) finish ⌝ }
+    ensures exact { λ r. ⌜ outcome r (now (store .entry)) ≡ finishCalled s (now (store .entry)) ⌝ }
     ensures sound { λ r. ⌜ SoundIfAccepted (outcome r (now (store .entry))) ⌝ }
 {
     if !sound(s, store.len()) {

@@ -15,21 +15,21 @@ ghost use Rattle.model.specs.Calls.{revert};
 ghost use Rattle.model.specs.Sound.{soundFor};
 ghost use Rattle.model.specs.Step.{step};
 ghost use Rattle.state.specs.View.{viewState};
-ghost use Rattle.state.specs.Outcome.{outcome, viewOutcome, SoundIfAccepted, called, calledOnSound};
-ghost use Rattle.session_calls.specs.Moved.{reverting};
+ghost use Rattle.state.specs.Outcome.{outcome, viewAnswered, SoundIfAccepted};
+ghost use Rattle.session_calls.specs.Moved.{revertCalled, revertCalledOnSound};
 
 // Revert of a state that is known to be sound, which `revert` checks.
 pub fn revert_on_sound(s: State, store: &[u8]) -> Answered
     requires { ⌜ soundFor (viewState s) (length (now store)) ≡ true ⌝ }
-    ensures { λ r. ⌜ outcome r (now (store .entry)) ≡ calledOnSound s (now (store .entry)) revert (reverting s (now (store .entry))) ⌝ }
+    ensures { λ r. ⌜ outcome r (now (store .entry)) ≡ revertCalledOnSound s (now (store .entry)) ⌝ }
 {
     move_to(s, REVERT, Phase::CleaningUp(CleanUpOrigin::Ready))
 }
 
 // Revert: Ready to CleaningUp.
 pub fn revert(s: State, store: &[u8]) -> Answered
-    ensures meaning { λ r. ⌜ viewOutcome (outcome r (now (store .entry))) ≡ step (viewState s) (now (store .entry)) revert ⌝ }
-    ensures exact { λ r. ⌜ outcome r (now (store .entry)) ≡ called s (now (store .entry)) revert (reverting s (now (store .entry))) ⌝ }
+    ensures meaning { λ r. ⌜ viewAnswered r (now (store .entry)) ≡ step (viewState s) (now (store .entry)) revert ⌝ }
+    ensures exact { λ r. ⌜ outcome r (now (store .entry)) ≡ revertCalled s (now (store .entry)) ⌝ }
     ensures sound { λ r. ⌜ SoundIfAccepted (outcome r (now (store .entry))) ⌝ }
 {
     if !sound(s, store.len()) {

@@ -17,8 +17,8 @@ ghost use Rattle.model.specs.Calls.{rollback};
 ghost use Rattle.model.specs.Sound.{soundFor};
 ghost use Rattle.model.specs.Step.{step};
 ghost use Rattle.state.specs.View.{viewState};
-ghost use Rattle.state.specs.Outcome.{outcome, viewOutcome, SoundIfAccepted, called, calledOnSound};
-ghost use Rattle.session_calls.specs.Moved.{rollbackOrigin, rollingBack};
+ghost use Rattle.state.specs.Outcome.{outcome, viewAnswered, SoundIfAccepted};
+ghost use Rattle.session_calls.specs.Moved.{rollbackOrigin, rollbackCalled, rollbackCalledOnSound};
 
 // Where RollingBack comes from: of the two states that allow Rollback, Verifying or else Activated.
 fn rollback_origin(phase: Phase) -> RollbackOrigin
@@ -33,7 +33,7 @@ fn rollback_origin(phase: Phase) -> RollbackOrigin
 // Rollback of a state that is known to be sound, which `rollback` checks.
 pub fn rollback_on_sound(s: State, store: &[u8]) -> Answered
     requires { ⌜ soundFor (viewState s) (length (now store)) ≡ true ⌝ }
-    ensures { λ r. ⌜ outcome r (now (store .entry)) ≡ calledOnSound s (now (store .entry)) rollback (rollingBack s (now (store .entry))) ⌝ }
+    ensures { λ r. ⌜ outcome r (now (store .entry)) ≡ rollbackCalledOnSound s (now (store .entry)) ⌝ }
 {
     let phase = s.phase;
     move_to(s, ROLLBACK, Phase::RollingBack(rollback_origin(phase)))
@@ -41,8 +41,8 @@ pub fn rollback_on_sound(s: State, store: &[u8]) -> Answered
 
 // Rollback: Verifying or Activated to RollingBack, which keeps where it came from.
 pub fn rollback(s: State, store: &[u8]) -> Answered
-    ensures meaning { λ r. ⌜ viewOutcome (outcome r (now (store .entry))) ≡ step (viewState s) (now (store .entry)) rollback ⌝ }
-    ensures exact { λ r. ⌜ outcome r (now (store .entry)) ≡ called s (now (store .entry)) rollback (rollingBack s (now (store .entry))) ⌝ }
+    ensures meaning { λ r. ⌜ viewAnswered r (now (store .entry)) ≡ step (viewState s) (now (store .entry)) rollback ⌝ }
+    ensures exact { λ r. ⌜ outcome r (now (store .entry)) ≡ rollbackCalled s (now (store .entry)) ⌝ }
     ensures sound { λ r. ⌜ SoundIfAccepted (outcome r (now (store .entry))) ⌝ }
 {
     if !sound(s, store.len()) {

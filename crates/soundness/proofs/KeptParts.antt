@@ -31,7 +31,7 @@ use Rattle.state.specs.declared.session.Entry.{Entry}
 use Rattle.state.specs.declared.work.Work.{Work}
 use Rattle.state.specs.View.{entriesMost, viewEntry, clearedEntry, isInstall, isClearedWork, keptWork, viewWork}
 use Rattle.listed_actions.specs.Listed.{listedActions}
-use Rattle.soundness.specs.Parts.{countedEntries, countedSession, workNumbersSound}
+use Rattle.soundness.specs.Parts.{countedEntries, countedSession, workNumbersSound, sessionPartSound, actionsSound}
 use Rattle.soundness.proofs.Order.{kept-action-last}
 
 -- ---- cleared values have no action within the limits
@@ -62,17 +62,13 @@ module _ (beginning : Table) (entries : List Entry) (count : ℕ) (few : count �
       ap (λ (l : List Entry). actions (map viewEntry l)) (counted-few entriesMost count clearedEntry entries few)
       ∙ map-twice viewEntry (λ e. e .action) (take count entries)
 
-  -- a table and actions on it, sound as a session's are
-  abbrev actionsSound : List Action → Bool
-  actionsSound acts = tableWithin table && (actionsWithin acts && passInTurn table [] acts)
-
-  session-is : sessionSound session ≡ actionsSound (listedActions entries count)
+  session-is : sessionSound session ≡ actionsSound table (listedActions entries count)
   unfolding sessionSound
-  session-is = ap actionsSound same-actions
+  session-is = ap (actionsSound table) same-actions
 
   module _ (phase : Phase) (ps : List Package) (w : Work) where
     abbrev whole : Bool
-    whole = sessionSound session && keptSound phase session ps (viewWork w)
+    whole = sessionPartSound phase session ps (viewWork w)
 
     -- ---- outside Processing
 
@@ -80,7 +76,7 @@ module _ (beginning : Table) (entries : List Entry) (count : ℕ) (few : count �
     unfolding keptSound
     kept-outside out = bool-cases (isClearedWork w) (λ e. rw (e, out)) λ e. rw (e, out)
 
-    outside : isProcessing phase ≡ false → whole ≡ isClearedWork w && actionsSound (listedActions entries count)
+    outside : isProcessing phase ≡ false → whole ≡ isClearedWork w && actionsSound table (listedActions entries count)
     outside out =
         ap (λ (b : Bool). sessionSound session && b) (kept-outside out)
         ∙ and-comm (sessionSound session) (isClearedWork w)
@@ -89,7 +85,7 @@ module _ (beginning : Table) (entries : List Entry) (count : ℕ) (few : count �
     pub uncleared : isProcessing phase ≡ false → isClearedWork w ≡ false → false ≡ whole
     uncleared out h = and-stop (isClearedWork w) _ h ∙ sym (outside out)
 
-    pub cleared : isProcessing phase ≡ false → isClearedWork w ≡ true → (r : Bool) → r ≡ actionsSound (listedActions entries count) → r ≡ whole
+    pub cleared : isProcessing phase ≡ false → isClearedWork w ≡ true → (r : Bool) → r ≡ actionsSound table (listedActions entries count) → r ≡ whole
     cleared out h r told = and-on (isClearedWork w) _ r h told ∙ sym (outside out)
 
     -- ---- in Processing
@@ -113,7 +109,7 @@ module _ (beginning : Table) (entries : List Entry) (count : ℕ) (few : count �
     unfolding keptSound
     kept-in in-it = bool-cases (isClearedWork w) (λ e. rw (e, in-it, cleared-work e)) λ e. rw (e, in-it)
 
-    inside : isProcessing phase ≡ true → whole ≡ workNumbersSound w size && actionsSound (listedActions entries count ++ kept ∷ [])
+    inside : isProcessing phase ≡ true → whole ≡ workNumbersSound w size && actionsSound table (listedActions entries count ++ kept ∷ [])
     inside in-it =
         let acts = listedActions entries count in
         ap₂ _&&_ session-is (kept-in in-it ∙ work-is)
@@ -124,5 +120,5 @@ module _ (beginning : Table) (entries : List Entry) (count : ℕ) (few : count �
     numbers-off in-it h = and-stop (workNumbersSound w size) _ h ∙ sym (inside in-it)
 
     pub numbers-right : isProcessing phase ≡ true → workNumbersSound w size ≡ true → (acts : List Action) → acts ≡ listedActions entries count ++ kept ∷ []
-        → (r : Bool) → r ≡ actionsSound acts → r ≡ whole
-    numbers-right in-it h acts more r told = and-on (workNumbersSound w size) _ r h (told ∙ ap actionsSound more) ∙ sym (inside in-it)
+        → (r : Bool) → r ≡ actionsSound table acts → r ≡ whole
+    numbers-right in-it h acts more r told = and-on (workNumbersSound w size) _ r h (told ∙ ap (actionsSound table) more) ∙ sym (inside in-it)

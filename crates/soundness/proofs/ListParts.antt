@@ -21,7 +21,7 @@ use Rattle.state.specs.declared.session.Entry.{Entry as EntryStruct}
 use Rattle.state.specs.View.{viewPackages, entriesMost, viewEntry, clearedEntry}
 use Rattle.state.proofs.Views.{packages-fit}
 use Rattle.listed_actions.specs.Listed.{entryId}
-use Rattle.soundness.specs.Parts.{countedEntries, plainId}
+use Rattle.soundness.specs.Parts.{countedEntries, plainId, listPartSound}
 use Rattle.soundness.proofs.Order.{numbers-first}
 
 -- ---- how many
@@ -69,7 +69,7 @@ module _ (entries : List EntryStruct) (count : ℕ) (long : length entries ≡ e
     listed = countedEntries entries count
 
     abbrev whole : Bool
-    whole = listSound listed ps && (processingSound phase ps && listFits phase listed)
+    whole = listPartSound phase ps listed
 
     abbrev phasePart : Bool
     phasePart = eqb (countIn isBeingProcessed ps) (cond (isProcessing phase) 1 0) && listFits phase listed

@@ -10,6 +10,7 @@ use Rattle.model.specs.State.{isProcessing}
 use Rattle.model.specs.Sound.{packagesMost, packagesRise, storeSound, transfersSound, sessionSound, listSound, keptSound, processingSound, listFits, soundFor}
 use Rattle.state.specs.declared.state.State.{State}
 use Rattle.state.specs.View.{viewPackages, viewTransfers, viewPhase, entriesMost, viewEntries, viewSession, viewWork, viewState}
+use Rattle.soundness.specs.Parts.{listPartSound, sessionPartSound}
 use Rattle.soundness.proofs.Order.{session-last}
 use Rattle.soundness.proofs.TransferLimits.{limits-told}
 use Rattle.soundness.proofs.ListParts.{room-for-all, numbers-told}
@@ -19,14 +20,10 @@ module _ (s : State) (room : ℕ) where
   transfersPart = storeSound (viewPackages (s .transfers)) room && transfersSound (viewTransfers (s .transfers))
 
   abbrev pub listPart : Bool
-  listPart =
-      listSound (viewEntries (s .session)) (viewPackages (s .transfers))
-      && (processingSound (viewPhase (s .phase)) (viewPackages (s .transfers)) && listFits (viewPhase (s .phase)) (viewEntries (s .session)))
+  listPart = listPartSound (viewPhase (s .phase)) (viewPackages (s .transfers)) (viewEntries (s .session))
 
   abbrev sessionPart : Bool
-  sessionPart =
-      sessionSound (viewSession (s .session))
-      && keptSound (viewPhase (s .phase)) (viewSession (s .session)) (viewPackages (s .transfers)) (viewWork (s .work))
+  sessionPart = sessionPartSound (viewPhase (s .phase)) (viewSession (s .session)) (viewPackages (s .transfers)) (viewWork (s .work))
 
   parts : soundFor (viewState s) room ≡ transfersPart && (listPart && sessionPart)
   unfolding soundFor

@@ -12,16 +12,15 @@ use state::transfers::Transfers;
 use state::work::Work;
 use state::work::is_cleared_work;
 ghost use mathlib.Core.Path.{_≡_};
-ghost use mathlib.Core.Bool.{true, cond, _&&_};
+ghost use mathlib.Core.Bool.{true};
 ghost use mathlib.Core.List.{[], _∷_, _++_};
 ghost use Prim.Native.Nat.{_+_, _≤_, _<_};
 ghost use Rattle.actions.specs.View.{viewAction};
-ghost use Rattle.model.specs.State.{isProcessing};
 ghost use Rattle.model.specs.Areas.{packageOf, processingId};
-ghost use Rattle.model.specs.Sound.{packagesMost, packagesRise, sessionSound, keptSound};
+ghost use Rattle.model.specs.Sound.{packagesMost, packagesRise};
 ghost use Rattle.state.specs.View.{viewPackages, viewPhase, viewWork, entriesMost};
 ghost use Rattle.listed_actions.specs.Listed.{listedActions};
-ghost use Rattle.soundness.specs.Parts.{countedSession, workNumbersSound};
+ghost use Rattle.soundness.specs.Parts.{countedSession, workNumbersSound, sessionPartSound, KeptCheckable};
 
 // The largest running sum: each is a remainder by 255.
 const RUNNING_SUM_MOST: u32 = 254;
@@ -77,8 +76,8 @@ pub fn session_and_kept_sound(
     count: usize,
     w: Work,
 ) -> bool
-    requires { ⌜ (t .count ≤ packagesMost) × (packagesRise 0 (t .next) (viewPackages t) ≡ true) × (count + cond (isProcessing (viewPhase phase)) 1 0 ≤ entriesMost) ⌝ }
-    ensures { λ r. ⌜ r ≡ sessionSound (countedSession beginning entries count) && keptSound (viewPhase phase) (countedSession beginning entries count) (viewPackages t) (viewWork w) ⌝ }
+    requires { ⌜ KeptCheckable phase t count ⌝ }
+    ensures { λ r. ⌜ r ≡ sessionPartSound (viewPhase phase) (countedSession beginning entries count) (viewPackages t) (viewWork w) ⌝ }
 {
     if !is_processing(phase) {
         if !is_cleared_work(w) {

@@ -9,19 +9,15 @@ use state::phase::Phase;
 use state::session::Entry;
 use state::transfers::Transfers;
 ghost use mathlib.Core.Path.{_≡_};
-ghost use mathlib.Core.Bool.{_&&_};
-ghost use mathlib.Core.List.{List, map};
 ghost use Prim.Native.Nat.{_≤_};
-ghost use lib.ListN.{take};
-ghost use Rattle.model.specs.State.{Entry as PlainEntry};
-ghost use Rattle.model.specs.Sound.{packagesMost, processedAsListed, listSound, processingSound, listFits};
+ghost use Rattle.model.specs.Sound.{packagesMost};
 ghost use Rattle.state.specs.View.{viewPackages, viewPhase, entriesMost};
-ghost use Rattle.soundness.specs.Parts.{plainId, countedEntries};
+ghost use Rattle.soundness.specs.Parts.{countedEntries, listPartSound, ProcessedAsListed};
 
 // Whether exactly the packages that are Processed have their ids among those listed. list_sound meets what is required.
 fn processed_as_listed(t: Transfers, ids: [u32; ENTRIES_MOST], listed: usize) -> bool
     requires { ⌜ (t .count ≤ packagesMost) × (listed ≤ entriesMost) ⌝ }
-    ensures { λ r. ⌜ ((entries : List PlainEntry) → take listed ids ≡ map plainId entries → r ≡ processedAsListed entries (viewPackages t)) ⌝ }
+    ensures { λ r. ⌜ ProcessedAsListed t ids listed r ⌝ }
 {
     let count = t.count;
     let mut i = 0;
@@ -40,7 +36,7 @@ fn processed_as_listed(t: Transfers, ids: [u32; ENTRIES_MOST], listed: usize) ->
 // the packages that are Processing. transfers_sound checks the number of packages before.
 pub fn list_sound(phase: Phase, t: Transfers, entries: [Entry; ENTRIES_MOST], count: usize) -> bool
     requires { ⌜ t .count ≤ packagesMost ⌝ }
-    ensures { λ r. ⌜ r ≡ listSound (countedEntries entries count) (viewPackages t) && (processingSound (viewPhase phase) (viewPackages t) && listFits (viewPhase phase) (countedEntries entries count)) ⌝ }
+    ensures { λ r. ⌜ r ≡ listPartSound (viewPhase phase) (viewPackages t) (countedEntries entries count) ⌝ }
 {
     let counts = count_states(t);
     if count != counts.processed {

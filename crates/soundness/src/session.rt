@@ -10,16 +10,13 @@ use listed_actions::in_turn::pass_in_turn;
 use state::limits::ENTRIES_MOST;
 use state::session::Entry;
 ghost use mathlib.Core.Path.{_≡_};
-ghost use mathlib.Core.Bool.{_&&_};
-ghost use mathlib.Core.List.{[]};
 ghost use Prim.Native.Nat.{_≤_};
-ghost use Rattle.clusters.specs.Table.{tableWithin};
 ghost use Rattle.clusters.specs.View.{viewTable};
 ghost use Rattle.actions.specs.Action.{actionWithin, actionsWithin};
-ghost use Rattle.actions.specs.Refusals.{passInTurn};
 ghost use Rattle.actions.specs.View.{viewAction};
 ghost use Rattle.state.specs.View.{entriesMost};
 ghost use Rattle.listed_actions.specs.Listed.{listedActions};
+ghost use Rattle.soundness.specs.Parts.{actionsSound};
 
 // Of a remove only the part number counts.
 fn action_within(action: Action) -> bool
@@ -55,7 +52,7 @@ fn actions_within(entries: [Entry; ENTRIES_MOST], count: usize) -> bool
 // in turn. list_sound sees before that there is room for them.
 pub fn session_sound(beginning: Table, entries: [Entry; ENTRIES_MOST], count: usize) -> bool
     requires { ⌜ count ≤ entriesMost ⌝ }
-    ensures { λ r. ⌜ r ≡ tableWithin (viewTable beginning) && (actionsWithin (listedActions entries count) && passInTurn (viewTable beginning) [] (listedActions entries count)) ⌝ }
+    ensures { λ r. ⌜ r ≡ actionsSound (viewTable beginning) (listedActions entries count) ⌝ }
 {
     if !table_within(beginning) {
         return false;

@@ -66,6 +66,10 @@ abbrev pub viewOutcome : Outcome → step.Outcome
 viewOutcome o =
     record { reply = replyOf (o .answered .answer); state = viewState (o .answered .state); store = o .store }
 
+-- what a call answered, with the store then, as the model has it
+abbrev pub viewAnswered : Answered → Store → step.Outcome
+viewAnswered r store = viewOutcome (outcome r store)
+
 -- an accepted call gives a state that is sound with the store then
 unfoldable pub SoundIfAccepted : Outcome → Type 0
 SoundIfAccepted o =
@@ -81,6 +85,6 @@ settled s store none o = o
 unfoldable pub called : State → Store → calls.Call → Outcome → Outcome
 called s store call accepts = settled s store (firstRefusal (step.refusals (viewState s) store call)) accepts
 
--- the same behind 1, of a sound state
+-- the same after refusal 1, of a sound state
 unfoldable pub calledOnSound : State → Store → calls.Call → Outcome → Outcome
 calledOnSound s store call accepts = settled s store (firstRefusal (step.furtherRefusals (viewState s) store call)) accepts

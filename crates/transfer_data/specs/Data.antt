@@ -4,13 +4,15 @@ use mathlib.Core.List.{List}
 use lib.ListN.{length, take}
 use Rattle.model.specs.State.{Store}
 use Rattle.model.specs.Areas.{declared, blockPut}
+use Rattle.model.specs.Calls.{transferData}
+use Rattle.model.specs.Step as step
 use Rattle.state.specs.declared.package.Package.{Package as Struct}
 use Rattle.state.specs.declared.transfers.Transfers.{Transfers}
 use Rattle.state.specs.declared.state.State.{State}
 use Rattle.state.specs.declared.answer.Answer.the-variants.{Done}
-use Rattle.state.specs.View.{viewPackages}
+use Rattle.state.specs.View.{viewPackages, viewState}
 use Rattle.state.specs.Exact.{withBlock, withPackage, withTransfers}
-use Rattle.state.specs.Outcome.{Outcome, outcome, answered}
+use Rattle.state.specs.Outcome.{Outcome, outcome, answered, called, calledOnSound}
 use Rattle.areas.specs.Inside.{AreaInside}
 use Rattle.areas.specs.Changed.{withChanged}
 use Rattle.store.specs.Positions.{written}
@@ -35,3 +37,15 @@ blockReceived s store id block =
     outcome
     (answered Done (withTransfers (withChanged id (withBlock (length block)) (s .transfers)) s))
     (blockPut id block (viewPackages (s .transfers)) store)
+
+-- TransferData(id, block counter, data): refused as the model refuses it, or accepted
+abbrev pub dataCalled : State → Store → ℕ → ℕ → List ℕ → Outcome
+dataCalled s store id counter block = called s store (transferData id counter block) (blockReceived s store id block)
+
+-- the same after refusal 1, of a sound state
+abbrev pub dataCalledOnSound : State → Store → ℕ → ℕ → List ℕ → Outcome
+dataCalledOnSound s store id counter block = calledOnSound s store (transferData id counter block) (blockReceived s store id block)
+
+-- the same call in the model
+abbrev pub dataStep : State → Store → ℕ → ℕ → List ℕ → step.Outcome
+dataStep s store id counter block = step.step (viewState s) store (transferData id counter block)

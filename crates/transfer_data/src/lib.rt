@@ -22,12 +22,11 @@ ghost use mathlib.Core.Bool.{true};
 ghost use Prim.Native.Nat.{_≤_};
 ghost use lib.ListN.{length};
 ghost use Rattle.base.specs.Refusals.{firstRefusal, numberOrZero};
-ghost use Rattle.model.specs.Calls.{transferData};
 ghost use Rattle.model.specs.Sound.{soundFor};
-ghost use Rattle.model.specs.Step.{step, dataRefusals};
+ghost use Rattle.model.specs.Step.{dataRefusals};
 ghost use Rattle.state.specs.View.{viewPackage, viewState};
-ghost use Rattle.state.specs.Outcome.{outcome, viewOutcome, SoundIfAccepted, called, calledOnSound};
-ghost use Rattle.transfer_data.specs.Data.{BlockFits, blockReceivedAt, blockReceived};
+ghost use Rattle.state.specs.Outcome.{outcome, viewAnswered, SoundIfAccepted};
+ghost use Rattle.transfer_data.specs.Data.{BlockFits, blockReceivedAt, dataCalled, dataCalledOnSound, dataStep};
 
 // The number of the first of TransferData's own refusals behind 4 that applies, or 0. A sound state meets what is required.
 fn data_refusal(p: Package, counter: u32, block_length: usize) -> u32
@@ -69,7 +68,7 @@ pub fn transfer_data_on_sound(
     block: &[u8],
 ) -> Answered
     requires { ⌜ soundFor (viewState s) (length (now store)) ≡ true ⌝ }
-    ensures { λ r. ⌜ outcome r (now (store .exit)) ≡ calledOnSound s (now (store .entry)) (transferData id counter (now (block .entry))) (blockReceived s (now (store .entry)) id (now (block .entry))) ⌝ }
+    ensures { λ r. ⌜ outcome r (now (store .exit)) ≡ dataCalledOnSound s (now (store .entry)) id counter (now (block .entry)) ⌝ }
 {
     let phase = s.phase;
     let t = s.transfers;
@@ -89,8 +88,8 @@ pub fn transfer_data_on_sound(
 
 // TransferData(id, block counter, data): the counter begins at 1 and rises by one per accepted block.
 pub fn transfer_data(s: State, store: &mut [u8], id: u32, counter: u32, block: &[u8]) -> Answered
-    ensures meaning { λ r. ⌜ viewOutcome (outcome r (now (store .exit))) ≡ step (viewState s) (now (store .entry)) (transferData id counter (now (block .entry))) ⌝ }
-    ensures exact { λ r. ⌜ outcome r (now (store .exit)) ≡ called s (now (store .entry)) (transferData id counter (now (block .entry))) (blockReceived s (now (store .entry)) id (now (block .entry))) ⌝ }
+    ensures meaning { λ r. ⌜ viewAnswered r (now (store .exit)) ≡ dataStep s (now (store .entry)) id counter (now (block .entry)) ⌝ }
+    ensures exact { λ r. ⌜ outcome r (now (store .exit)) ≡ dataCalled s (now (store .entry)) id counter (now (block .entry)) ⌝ }
     ensures sound { λ r. ⌜ SoundIfAccepted (outcome r (now (store .exit))) ⌝ }
 {
     if !sound(s, store.len()) {

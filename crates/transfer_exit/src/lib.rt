@@ -22,26 +22,24 @@ use state::transfers::with_package;
 ghost use mathlib.Core.Path.{_≡_};
 ghost use mathlib.Core.Bool.{true};
 ghost use Prim.Native.Nat.{_<_};
-ghost use lib.ListN.{length, take, drop};
+ghost use lib.ListN.{length};
 ghost use Rattle.base.specs.Refusals.{firstRefusal, numberOrZero};
-ghost use Rattle.manifest.specs.Package.{readPackage};
-ghost use Rattle.model.specs.Areas.{declared};
 ghost use Rattle.model.specs.Calls.{transferExit};
 ghost use Rattle.model.specs.Sound.{packagesMost, soundFor};
 ghost use Rattle.model.specs.Step.{step, exitRefusals};
-ghost use Rattle.state.specs.View.{viewPackage, viewPackages, viewState};
+ghost use Rattle.state.specs.View.{viewPackage, viewState};
 ghost use Rattle.state.specs.declared.answer.Answer.the-variants.{Done};
 ghost use Rattle.state.specs.declared.package.PackageState.the-variants.{Transferred};
 ghost use Rattle.state.specs.Exact.{inState, withPackage, withTransfers};
-ghost use Rattle.state.specs.Outcome.{outcome, answered, viewOutcome, SoundIfAccepted, called, calledOnSound};
-ghost use Rattle.areas.specs.Inside.{AreaInside};
-ghost use Rattle.transfer_exit.specs.Exit.{exited};
+ghost use Rattle.state.specs.Outcome.{outcome, answered, viewAnswered, SoundIfAccepted};
+ghost use Rattle.areas.specs.Inside.{AreaInside, readAt};
+ghost use Rattle.transfer_exit.specs.Exit.{exitCalled, exitCalledOnSound};
 
 // The number of the first of TransferExit's own refusals behind 4 that applies to the package p at i, or 0. A call that found the
 // package meets what is required.
 fn exit_refusal(t: Transfers, i: usize, p: Package, store: &[u8]) -> u32
     requires { ⌜ AreaInside t i p (length (now store)) ⌝ }
-    ensures { λ r. ⌜ r ≡ numberOrZero (firstRefusal (exitRefusals (viewPackage p) (readPackage (take (p .size) (drop (declared (take i (viewPackages t))) (now (store .entry))))))) ⌝ }
+    ensures { λ r. ⌜ r ≡ numberOrZero (firstRefusal (exitRefusals (viewPackage p) (readAt t i p (now (store .entry))))) ⌝ }
 {
     let state = p.state;
     if !is_transferring(state) {
@@ -67,7 +65,7 @@ fn accept_package(s: State, i: usize, p: Package) -> Answered
 // TransferExit of a state that is known to be sound, which `transfer_exit` checks.
 pub fn transfer_exit_on_sound(s: State, store: &[u8], id: u32) -> Answered
     requires { ⌜ soundFor (viewState s) (length (now store)) ≡ true ⌝ }
-    ensures { λ r. ⌜ outcome r (now (store .entry)) ≡ calledOnSound s (now (store .entry)) (transferExit id) (exited s (now (store .entry)) id) ⌝ }
+    ensures { λ r. ⌜ outcome r (now (store .entry)) ≡ exitCalledOnSound s (now (store .entry)) id ⌝ }
 {
     let phase = s.phase;
     let t = s.transfers;
@@ -87,8 +85,8 @@ pub fn transfer_exit_on_sound(s: State, store: &[u8], id: u32) -> Answered
 
 // TransferExit(id): checks the package, which is then Transferred.
 pub fn transfer_exit(s: State, store: &[u8], id: u32) -> Answered
-    ensures meaning { λ r. ⌜ viewOutcome (outcome r (now (store .entry))) ≡ step (viewState s) (now (store .entry)) (transferExit id) ⌝ }
-    ensures exact { λ r. ⌜ outcome r (now (store .entry)) ≡ called s (now (store .entry)) (transferExit id) (exited s (now (store .entry)) id) ⌝ }
+    ensures meaning { λ r. ⌜ viewAnswered r (now (store .entry)) ≡ step (viewState s) (now (store .entry)) (transferExit id) ⌝ }
+    ensures exact { λ r. ⌜ outcome r (now (store .entry)) ≡ exitCalled s (now (store .entry)) id ⌝ }
     ensures sound { λ r. ⌜ SoundIfAccepted (outcome r (now (store .entry))) ⌝ }
 {
     if !sound(s, store.len()) {

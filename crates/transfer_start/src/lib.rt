@@ -26,8 +26,8 @@ ghost use Rattle.model.specs.Calls.{transferStart};
 ghost use Rattle.model.specs.Sound.{soundFor};
 ghost use Rattle.model.specs.Step.{step, startRefusals};
 ghost use Rattle.state.specs.View.{viewState};
-ghost use Rattle.state.specs.Outcome.{outcome, viewOutcome, SoundIfAccepted, called, calledOnSound};
-ghost use Rattle.transfer_start.specs.Start.{started};
+ghost use Rattle.state.specs.Outcome.{outcome, viewAnswered, SoundIfAccepted};
+ghost use Rattle.transfer_start.specs.Start.{startCalled, startCalledOnSound};
 
 // The number of the first of TransferStart's own refusals that applies, or 0.
 fn start_refusal(size: u32, count: usize, free: usize, next: u64) -> u32
@@ -51,7 +51,7 @@ fn start_refusal(size: u32, count: usize, free: usize, next: u64) -> u32
 // TransferStart of a state that is known to be sound, which `transfer_start` checks.
 pub fn transfer_start_on_sound(s: State, store: &[u8], size: u32) -> Answered
     requires { ⌜ soundFor (viewState s) (length (now store)) ≡ true ⌝ }
-    ensures { λ r. ⌜ outcome r (now (store .entry)) ≡ calledOnSound s (now (store .entry)) (transferStart size) (started s (now (store .entry)) size) ⌝ }
+    ensures { λ r. ⌜ outcome r (now (store .entry)) ≡ startCalledOnSound s (now (store .entry)) size ⌝ }
 {
     let phase = s.phase;
     if !allowed(phase, TRANSFER_START) {
@@ -71,8 +71,8 @@ pub fn transfer_start_on_sound(s: State, store: &[u8], size: u32) -> Answered
 
 // TransferStart(size): gives the next id, one above the last given.
 pub fn transfer_start(s: State, store: &[u8], size: u32) -> Answered
-    ensures meaning { λ r. ⌜ viewOutcome (outcome r (now (store .entry))) ≡ step (viewState s) (now (store .entry)) (transferStart size) ⌝ }
-    ensures exact { λ r. ⌜ outcome r (now (store .entry)) ≡ called s (now (store .entry)) (transferStart size) (started s (now (store .entry)) size) ⌝ }
+    ensures meaning { λ r. ⌜ viewAnswered r (now (store .entry)) ≡ step (viewState s) (now (store .entry)) (transferStart size) ⌝ }
+    ensures exact { λ r. ⌜ outcome r (now (store .entry)) ≡ startCalled s (now (store .entry)) size ⌝ }
     ensures sound { λ r. ⌜ SoundIfAccepted (outcome r (now (store .entry))) ⌝ }
 {
     if !sound(s, store.len()) {

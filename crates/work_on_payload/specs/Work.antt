@@ -5,13 +5,14 @@ use lib.Dec.{ltb}
 use lib.ListN.{take, drop}
 use Rattle.model.specs.State.{Store}
 use Rattle.model.specs.Areas.{declared}
+use Rattle.model.specs.Calls.{work}
 use Rattle.state.specs.declared.package.PackageState.the-variants.{Transferred}
 use Rattle.state.specs.declared.work.Work.{Work}
 use Rattle.state.specs.declared.state.State.{State}
 use Rattle.state.specs.declared.answer.Answer.the-variants.{Working, Cancelled}
 use Rattle.state.specs.declared.answer.Answered.{Answered}
 use Rattle.state.specs.View.{viewPackages, entriesMost}
-use Rattle.state.specs.Outcome.{Outcome, outcome, answered}
+use Rattle.state.specs.Outcome.{Outcome, outcome, answered, called, calledOnSound}
 use Rattle.areas.specs.Inside.{AreaInside}
 use Rattle.areas.specs.Changed.{packageAt}
 use Rattle.state.specs.Exact.{withWork}
@@ -39,6 +40,14 @@ workedAt s store i n =
 -- "Work(n), n of 32 bits", at the place of the package that is processing. The store stays as it is
 abbrev pub worked : State → Store → ℕ → Outcome
 worked s store n = outcome (workedAt s store (processingPlace (viewPackages (s .transfers))) n) store
+
+-- Work(n): refused as the model refuses it, or accepted
+abbrev pub workCalled : State → Store → ℕ → Outcome
+workCalled s store n = called s store (work n) (worked s store n)
+
+-- the same after refusal 1, of a sound state
+abbrev pub workCalledOnSound : State → Store → ℕ → Outcome
+workCalledOnSound s store n = calledOnSound s store (work n) (worked s store n)
 
 -- what soundness says in Processing, where the package at i is the one: its area and its payload lie in the store, and the session's list
 -- has room for its action

@@ -26,8 +26,8 @@ ghost use Rattle.model.specs.Calls.{work};
 ghost use Rattle.model.specs.Sound.{soundFor};
 ghost use Rattle.model.specs.Step.{step};
 ghost use Rattle.state.specs.View.{viewState};
-ghost use Rattle.state.specs.Outcome.{outcome, viewOutcome, SoundIfAccepted, called, calledOnSound};
-ghost use Rattle.work_on_payload.specs.Work.{WorkFits, workedAt, worked};
+ghost use Rattle.state.specs.Outcome.{outcome, viewAnswered, SoundIfAccepted};
+ghost use Rattle.work_on_payload.specs.Work.{workedAt, workCalled, workCalledOnSound, WorkFits};
 
 // Work on the package at i, the one that is processing. A noted cancel comes before any payload. A sound state meets what is required.
 fn accept_work(s: State, store: &[u8], i: usize, n: u32) -> Answered
@@ -51,7 +51,7 @@ fn accept_work(s: State, store: &[u8], i: usize, n: u32) -> Answered
 // Work of a state that is known to be sound, which `work` checks.
 pub fn work_on_sound(s: State, store: &[u8], n: u32) -> Answered
     requires { ⌜ soundFor (viewState s) (length (now store)) ≡ true ⌝ }
-    ensures { λ r. ⌜ outcome r (now (store .entry)) ≡ calledOnSound s (now (store .entry)) (work n) (worked s (now (store .entry)) n) ⌝ }
+    ensures { λ r. ⌜ outcome r (now (store .entry)) ≡ workCalledOnSound s (now (store .entry)) n ⌝ }
 {
     let phase = s.phase;
     if !allowed(phase, WORK) {
@@ -64,8 +64,8 @@ pub fn work_on_sound(s: State, store: &[u8], n: u32) -> Answered
 
 // Work(n): takes the next n payload bytes, or what is left, into the sum.
 pub fn work(s: State, store: &[u8], n: u32) -> Answered
-    ensures meaning { λ r. ⌜ viewOutcome (outcome r (now (store .entry))) ≡ step (viewState s) (now (store .entry)) (work n) ⌝ }
-    ensures exact { λ r. ⌜ outcome r (now (store .entry)) ≡ called s (now (store .entry)) (work n) (worked s (now (store .entry)) n) ⌝ }
+    ensures meaning { λ r. ⌜ viewAnswered r (now (store .entry)) ≡ step (viewState s) (now (store .entry)) (work n) ⌝ }
+    ensures exact { λ r. ⌜ outcome r (now (store .entry)) ≡ workCalled s (now (store .entry)) n ⌝ }
     ensures sound { λ r. ⌜ SoundIfAccepted (outcome r (now (store .entry))) ⌝ }
 {
     if !sound(s, store.len()) {

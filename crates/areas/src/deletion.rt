@@ -29,8 +29,8 @@ fn keeps(deletion: Deletion, p: Package) -> bool
     }
 }
 
-// The packages that are kept move to the front in their order; the places behind them keep what they held. A sound state meets what
-// is required.
+// Moves the packages that are kept to the front in their order; the places behind them keep what they held. Precondition: there are at most
+// 16 packages; a sound state meets it.
 pub fn remaining(t: Transfers, deletion: Deletion) -> Transfers
     requires { ⌜ t .count ≤ packagesMost ⌝ }
     ensures { λ r. ⌜ r ≡ remainingTransfers deletion t ⌝ }
@@ -54,8 +54,8 @@ pub fn remaining(t: Transfers, deletion: Deletion) -> Transfers
     }
 }
 
-// The areas of the packages that are kept are moved down behind one another, and the bytes that this frees become 0. A sound state
-// meets what is required.
+// Moves the areas of the packages that are kept down behind one another, and fills the bytes that this frees with 0. Precondition: there
+// are at most 16 packages and their areas fit the store; a sound state meets it.
 pub fn delete_areas(t: Transfers, deletion: Deletion, store: &mut [u8])
     requires { ⌜ (t .count ≤ packagesMost) × (declared (viewPackages t) ≤ length (now store)) ⌝ }
     ensures { λ _. ⌜ now (store .exit) ≡ deleted (keeps deletion) (viewPackages t) (now (store .entry)) ⌝ }

@@ -1,4 +1,5 @@
-// Where the package with an id stands, the one that a call names, and the one that is processing. A sound state meets what is required.
+// Places of packages: of the one with an id, the one that a call names, and the one that is processing. Precondition of each function:
+// there are at most 16 packages; a sound state meets it, and `soundness` checks it first.
 use place_in_list::Found;
 use refusal::INVALID_TRANSFER_ID;
 use refusal::OPERATION_NOT_PERMITTED;
@@ -17,7 +18,7 @@ ghost use Rattle.state.specs.View.{viewPackages, viewPhase};
 ghost use Rattle.areas.specs.Place.{placeOf, processingPlace};
 ghost use Rattle.areas.specs.Named.{namedRefusals};
 
-// The place of the package with an id.
+// Finds the place of the package with an id.
 pub fn find(t: Transfers, id: u32) -> Found
     requires { ⌜ t .count ≤ packagesMost ⌝ }
     ensures place { λ r. ⌜ r ≡ placeOf id (viewPackages t) ⌝ }
@@ -41,7 +42,7 @@ pub struct NamedPackage {
     pub place: usize,
 }
 
-// The package with an id, for the call with a number in a manager's state.
+// Finds the package with an id, for the call with a number in a manager's state.
 pub fn named_package(phase: Phase, t: Transfers, call: usize, id: u32) -> NamedPackage
     requires { ⌜ t .count ≤ packagesMost ⌝ }
     ensures number { λ r. ⌜ r .number ≡ numberOrZero (firstRefusal (namedRefusals (viewPhase phase) (viewPackages t) call id)) ⌝ }
@@ -65,7 +66,7 @@ pub fn named_package(phase: Phase, t: Transfers, call: usize, id: u32) -> NamedP
     }
 }
 
-// The place of the package that is processing; where none is, the number of packages.
+// Finds the place of the package that is processing; where none is, it gives the number of packages.
 pub fn processing_place(t: Transfers) -> usize
     requires { ⌜ t .count ≤ packagesMost ⌝ }
     ensures { λ r. ⌜ r ≡ processingPlace (viewPackages t) ⌝ }

@@ -7,7 +7,7 @@ ghost use mathlib.Core.Path.{_≡_};
 ghost use Rattle.manifest.specs.Package.{readPackage};
 ghost use Rattle.manifest.specs.Answer.{answerNumber, refusalNumber};
 
-// The number of an answer of the reader: 9, 10, or 0 for neither.
+// Gives the number of an answer of the reader: 9, 10, or 0 for neither.
 pub fn answer_refusal(answer: PackageAnswer) -> u32
     ensures { λ r. ⌜ r ≡ answerNumber answer ⌝ }
 {
@@ -18,7 +18,7 @@ pub fn answer_refusal(answer: PackageAnswer) -> u32
     }
 }
 
-// The number of the first of 9 and 10 that applies to an area, or 0. The text is read once.
+// Gives the number of the first of 9 and 10 that applies to an area, or 0. The text is read once.
 pub fn area_refusal(area: &[u8]) -> u32
     ensures { λ r. ⌜ r ≡ refusalNumber (readPackage (now (area .entry))) ⌝ }
 {

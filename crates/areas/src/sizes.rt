@@ -1,4 +1,4 @@
-// Declared sizes added up. Sizes are of 32 bits and there are at most 16, so the sum fits 64 bits on any state.
+// Declared sizes added up: at most 16 of 32 bits each, so that the sum fits 64 bits.
 use state::transfers::Transfers;
 ghost use mathlib.Core.Path.{_≡_};
 ghost use Prim.Native.Nat.{_-_, _≤_};
@@ -7,8 +7,8 @@ ghost use Rattle.model.specs.Areas.{declared};
 ghost use Rattle.model.specs.Sound.{packagesMost};
 ghost use Rattle.state.specs.View.{viewPackages};
 
-// Where the area of the package at i starts: behind the areas of those before it. A sound state and a place that was found meet what
-// is required.
+// Finds where the area of the package at i starts: behind the areas of those before it. Precondition: there are at most 16 packages, and i
+// is at most their number; a sound state and a place that was found meet it.
 pub fn area_start(t: Transfers, i: usize) -> usize
     requires { ⌜ (t .count ≤ packagesMost) × (i ≤ t .count) ⌝ }
     ensures { λ r. ⌜ r ≡ declared (take i (viewPackages t)) ⌝ }
@@ -23,7 +23,7 @@ pub fn area_start(t: Transfers, i: usize) -> usize
     start
 }
 
-// The bytes of a store of a length that no package declares. A sound state meets what is required.
+// Counts the bytes of a store of a length that no package declares. Precondition: there are at most 16 packages; a sound state meets it.
 pub fn free_bytes(t: Transfers, store_length: usize) -> usize
     requires { ⌜ t .count ≤ packagesMost ⌝ }
     ensures { λ r. ⌜ r ≡ «store_length» - declared (viewPackages t) ⌝ }

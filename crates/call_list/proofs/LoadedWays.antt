@@ -1,5 +1,5 @@
--- The ways out of `load_and_run`: refused as malformed, refused for want of room, a refused Load, or every call made from what Load gave; then
--- demand 3 is met. Assumes nothing.
+-- The ways out of `load_and_run`: refused as malformed, refused for want of room, a refused Load, or every call made from what Load gave;
+-- then demand 3 is met. Assumes nothing.
 use Prim.Native.Nat.{ℕ, _*_, _/_, _≤_, _<_}
 use mathlib.Core.Path.{_≡_, refl, sym, ap, subst, _∙_}
 use mathlib.Core.Bool.{Bool, true, false, true≢false}

@@ -61,7 +61,7 @@ fn row_answered(words: AnswerWords, s: State) -> RowAnswered
     }
 }
 
-// A call of the twelve is made.
+// Makes a call of the twelve.
 fn make_twelve(s: State, store: &mut [u8], request: Request, block: &[u8]) -> RowAnswered
     ensures { λ r. ⌜ CallMade s (now (store .entry)) (ofTwelve (callOf request (now (block .entry)))) r (now (store .exit)) ⌝ }
 {
@@ -71,7 +71,7 @@ fn make_twelve(s: State, store: &mut [u8], request: Request, block: &[u8]) -> Ro
     row_answered(answer_words(answer), state)
 }
 
-// A call of the old four is made, which writes no store.
+// Makes a call of the old four, which writes no store.
 fn make_old(s: State, store: &[u8], old: OldCall) -> RowAnswered
     ensures { λ r. ⌜ CallMade s (now (store .entry)) (ofFour old) r (now (store .entry)) ⌝ }
 {
@@ -80,7 +80,7 @@ fn make_old(s: State, store: &[u8], old: OldCall) -> RowAnswered
     row_answered(old_answer_words(made.answer), state)
 }
 
-// The call of a row is made. Of a malformed row nothing is said: `run` looks at all rows before it makes the first call.
+// Makes the call of a row. Of a malformed row nothing is said: `run` and `load_and_run` check all rows before the first call.
 fn make_call(s: State, store: &mut [u8], row: Row, bytes: &[u8]) -> RowAnswered
     ensures { λ r. ⌜ RowMade s (now (store .entry)) row (now (bytes .entry)) r (now (store .exit)) ⌝ }
 {
@@ -93,7 +93,8 @@ fn make_call(s: State, store: &mut [u8], row: Row, bytes: &[u8]) -> RowAnswered
     }
 }
 
-// The two words of an answer are put into the slice at a place. There is room, which `run` sees before it makes the first call.
+// Puts the two words of an answer into the slice at a place. Precondition: the slice has room for them; `run` and `load_and_run` check it
+// before the first call.
 fn put_answer(answers: &mut [u32], at: usize, words: AnswerWords)
     requires { ⌜ at + 2 ≤ length (now answers) ⌝ }
     ensures { λ r. ⌜ now (answers .exit) ≡ sets (now (answers .entry)) at (words .kind ∷ words .value ∷ []) ⌝ }
@@ -102,7 +103,8 @@ fn put_answer(answers: &mut [u32], at: usize, words: AnswerWords)
     answers[at + 1] = words.value;
 }
 
-// Every call of the rows is made, each with the state and store that the one before left. `run` checks what is required.
+// Makes every call of the rows, each with the state and store that the one before left. Precondition: the rows are well-formed and the
+// slice has two words for each call; `run` and `load_and_run` check both.
 fn make_all(s: State, store: &mut [u8], words: &[u32], bytes: &[u8], answers: &mut [u32]) -> State
     requires { ⌜ isGiven (decoded (now words) (now bytes)) ≡ true ⌝ }
     requires { ⌜ length (now words) / 3 ≤ length (now answers) ⌝ }
@@ -132,8 +134,8 @@ fn replied(reply: ListReply, s: State) -> RepliedList
     }
 }
 
-// A list of calls in rows of six words, with their blocks in a byte string, is made from a state and a store. The answers are two words
-// for each call. A malformed list, or one with more calls than there is room for answers, is refused whole before anything is changed. A list
+// Makes a list of calls in rows of six words, with their blocks in a byte string, from a state and a store. The answers are two words for
+// each call. A malformed list, or one with more calls than there is room for answers, is refused whole before anything is changed. A list
 // that was made may go on by another: `goes_on`.
 pub fn run(
     s: State,

@@ -12,8 +12,8 @@ ghost use Rattle.call_rows.specs.Rows.{decoded};
 ghost use Rattle.call_list.specs.WholeList.{listOutcome};
 ghost use Rattle.call_list.specs.Loaded.{loadAndRunOutcome, DemandMetIfMade, LoadReplied};
 
-// Load, and then every call of the list, each with the state and store that the one before left. A malformed list, one with more calls
-// than there is room for answers, and then a refused Load are refused before anything is changed.
+// Loads, and then makes every call of the list, each with the state and store that the one before left. A malformed list, one with more
+// calls than there is room for answers, and then a refused Load are refused before anything is changed.
 pub fn load_and_run(
     s: State,
     list: &[u8],

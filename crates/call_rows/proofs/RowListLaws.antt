@@ -36,7 +36,7 @@ module _ (words : List ℕ) where
   one-word : (i n : ℕ) → n ≡ i + 1 → i < length words → drop i words ≡ getD words i 0 ∷ drop n words
   one-word i n e h = rw (e, add-one, drop-cons words i 0 h)
 
-  -- what stands from i on begins with a row
+  -- the words from i on begin with a row
   pub six-words : (i : ℕ) → i + 6 ≤ length words
       → drop i words
       ≡ getD words i 0

@@ -20,7 +20,7 @@ fn two_words(kind: u32, value: u32) -> AnswerWords
     }
 }
 
-// The two words of an answer of the twelve.
+// Gives the two words of an answer of the twelve.
 pub fn answer_words(answer: Answer) -> AnswerWords
     ensures { λ r. ⌜ r ≡ answerWords (byTwelve (replyOf answer)) ⌝ }
 {
@@ -41,7 +41,7 @@ pub fn answer_words(answer: Answer) -> AnswerWords
     }
 }
 
-// The two words of an answer of the old four.
+// Gives the two words of an answer of the old four.
 pub fn old_answer_words(answer: u8) -> AnswerWords
     ensures { λ r. ⌜ r ≡ answerWords (byFour answer) ⌝ }
 {

@@ -30,7 +30,8 @@ pub enum RowRequest {
     Malformed,
 }
 
-// The row from the word i on. A list whose number of words was checked meets what is required.
+// Reads the row from the word i on. Precondition: six words are there; `rows_well_formed` tests it, and `call_list` reads only rows that
+// passed.
 pub fn row_at(words: &[u32], i: usize) -> Row
     requires { ⌜ i + 6 ≤ length (now words) ⌝ }
     ensures { λ r. ⌜ r ≡ rowAt (now (words .entry)) i ⌝ }
@@ -45,7 +46,7 @@ pub fn row_at(words: &[u32], i: usize) -> Row
     }
 }
 
-// A call of the twelve if what is demanded of its row holds.
+// Gives a call of the twelve if what is demanded of its row holds.
 fn twelve_if(holds: bool, request: Request) -> RowRequest
     ensures { λ r. ⌜ requestIn r ≡ requestIf holds (Twelve request) ⌝ }
 {
@@ -55,7 +56,7 @@ fn twelve_if(holds: bool, request: Request) -> RowRequest
     RowRequest::Malformed
 }
 
-// An old call if what is demanded of its row holds.
+// Gives an old call if what is demanded of its row holds.
 fn old_if(holds: bool, call: OldCall) -> RowRequest
     ensures { λ r. ⌜ requestIn r ≡ requestIf holds (Old call) ⌝ }
 {
@@ -65,14 +66,14 @@ fn old_if(holds: bool, call: OldCall) -> RowRequest
     RowRequest::Malformed
 }
 
-// Whether a row has no second number and no block.
+// Says whether a row has no second number and no block.
 fn has_one_number(row: Row) -> bool
     ensures { λ r. ⌜ r ≡ hasOneNumber row ⌝ }
 {
     (row.second == 0) & ((row.start == 0) & (row.length == 0))
 }
 
-// The request of a row by its number, which is above those of the twelve: `request_of` has seen them.
+// Gives the request of a row by its number. Precondition: the number is above those of the twelve; `request_of` calls it for no other.
 fn old_request(row: Row) -> RowRequest
     requires { ⌜ 12 ≤ row .call ⌝ }
     ensures { λ r. ⌜ requestIn r ≡ getD (requestsByNumber row) (row .call) none ⌝ }
@@ -90,7 +91,7 @@ fn old_request(row: Row) -> RowRequest
     }
 }
 
-// The request that the words of a row say, wherever its block lies.
+// Gives the request that the words of a row say, wherever its block lies.
 fn request_of(row: Row) -> RowRequest
     ensures { λ r. ⌜ requestIn r ≡ requested row ⌝ }
 {
@@ -118,7 +119,7 @@ fn request_of(row: Row) -> RowRequest
     }
 }
 
-// The request of a row whose block lies within a byte string of a length.
+// Gives the request of a row whose block lies within a byte string of a length.
 pub fn row_request(row: Row, room: usize) -> RowRequest
     ensures { λ r. ⌜ requestIn r ≡ requestWithin row room ⌝ }
 {
@@ -128,7 +129,8 @@ pub fn row_request(row: Row, room: usize) -> RowRequest
     request_of(row)
 }
 
-// The block of a row: the part of the byte string itself. A row that has a request meets what is required.
+// Gives the block of a row: the part of the byte string itself. Precondition: the block lies within the byte string; a row that has a
+// request meets it.
 pub fn row_block(row: Row, bytes: &[u8]) -> &[u8]
     requires { ⌜ row .start + row .length ≤ length (now bytes) ⌝ }
     ensures { λ r. ⌜ now r ≡ blockOf row (now (bytes .entry)) ⌝ }

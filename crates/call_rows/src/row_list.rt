@@ -5,7 +5,7 @@ use crate::row::row_request;
 ghost use mathlib.Core.Path.{_≡_};
 ghost use Rattle.call_rows.specs.Rows.{decoded, isGiven};
 
-// Whether the words are a list of calls with blocks in a byte string.
+// Says whether the words are a list of calls with blocks in a byte string.
 pub fn rows_well_formed(words: &[u32], bytes: &[u8]) -> bool
     ensures { λ r. ⌜ r ≡ isGiven (decoded (now (words .entry)) (now (bytes .entry))) ⌝ }
 {

@@ -24,7 +24,7 @@ ghost use Rattle.state.specs.Outcome.{outcome, answered, viewAnswered, SoundIfA
 ghost use Rattle.state.specs.Exact.{withWork};
 ghost use Rattle.cancel_processing.specs.Cancel.{withCancelNoted, cancelCalled, cancelCalledOnSound};
 
-// The state with the cancel noted.
+// Notes the cancel in the state.
 fn note_cancel(s: State) -> Answered
     ensures { λ r. ⌜ r ≡ answered Done (withWork (withCancelNoted (s .work)) s) ⌝ }
 {
@@ -33,7 +33,7 @@ fn note_cancel(s: State) -> Answered
     answer_with(Answer::Done, with_work(s, work))
 }
 
-// Cancel of a state that is known to be sound, which `cancel` checks.
+// Makes the call after refusal 1. Precondition: the state is sound for the store; `cancel`, `manager::call` and the old Cancel check it.
 pub fn cancel_on_sound(s: State, store: &[u8], id: u32) -> Answered
     requires { ⌜ soundFor (viewState s) (length (now store)) ≡ true ⌝ }
     ensures { λ r. ⌜ outcome r (now (store .entry)) ≡ cancelCalledOnSound s (now (store .entry)) id ⌝ }

@@ -29,7 +29,7 @@ ghost use Rattle.state.specs.View.{viewPackageState, viewPackages, viewState};
 ghost use Rattle.state.specs.Outcome.{outcome, viewAnswered, SoundIfAccepted};
 ghost use Rattle.delete_transfer.specs.Delete.{withoutTransfer, deleteCalled, deleteCalledOnSound};
 
-// The number of DeleteTransfer's own refusal behind 4 if it applies, or 0.
+// Gives the number of DeleteTransfer's own refusal after refusal 4 if it applies, or 0.
 fn delete_refusal(state: PackageState) -> u32
     ensures { λ r. ⌜ r ≡ numberOrZero (firstRefusal (deleteRefusals (viewPackageState state))) ⌝ }
 {
@@ -42,7 +42,8 @@ fn delete_refusal(state: PackageState) -> u32
     0
 }
 
-// The package with an id and its area are taken out. A sound state meets what is required.
+// Takes out the package with an id and its area. Precondition: there are at most 16 packages and their areas fit the store; a sound state
+// meets it.
 fn take_out(s: State, store: &mut [u8], id: u32) -> Answered
     requires { ⌜ (s .transfers .count ≤ packagesMost) × (declared (viewPackages (s .transfers)) ≤ length (now store)) ⌝ }
     ensures { λ r. ⌜ outcome r (now (store .exit)) ≡ withoutTransfer s (now (store .entry)) id ⌝ }
@@ -53,7 +54,7 @@ fn take_out(s: State, store: &mut [u8], id: u32) -> Answered
     answer_with(Answer::Done, with_transfers(s, remaining(t, deletion)))
 }
 
-// DeleteTransfer of a state that is known to be sound, which `delete_transfer` checks.
+// Makes the call after refusal 1. Precondition: the state is sound for the store; `delete_transfer` and `manager::call` check it.
 pub fn delete_transfer_on_sound(s: State, store: &mut [u8], id: u32) -> Answered
     requires { ⌜ soundFor (viewState s) (length (now store)) ≡ true ⌝ }
     ensures { λ r. ⌜ outcome r (now (store .exit)) ≡ deleteCalledOnSound s (now (store .entry)) id ⌝ }
@@ -75,7 +76,7 @@ pub fn delete_transfer_on_sound(s: State, store: &mut [u8], id: u32) -> Answered
     take_out(s, store, id)
 }
 
-// DeleteTransfer(id): the package is taken out, and later areas move down.
+// DeleteTransfer(id): takes the package out and moves later areas down.
 pub fn delete_transfer(s: State, store: &mut [u8], id: u32) -> Answered
     ensures meaning { λ r. ⌜ viewAnswered r (now (store .exit)) ≡ step (viewState s) (now (store .entry)) (deleteTransfer id) ⌝ }
     ensures exact { λ r. ⌜ outcome r (now (store .exit)) ≡ deleteCalled s (now (store .entry)) id ⌝ }

@@ -1,5 +1,5 @@
--- The answers of the old calls as one table, and each beside the refusals of the twelve's call of its name: of every state and store and every
--- id. By cases of the manager's state. Assumes nothing.
+-- The answers of the old calls as one table, and each beside the refusals of the twelve's call of its name: of every state and store and
+-- every id. By cases of the manager's state. Assumes nothing.
 use Prim.Native.Nat.{ℕ}
 use mathlib.Core.Path.{_≡_, refl, sym}
 use mathlib.Core.Bool.{Bool, true, false, not, cond, _&&_, _||_}

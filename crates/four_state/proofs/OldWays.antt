@@ -49,7 +49,7 @@ use Rattle.four_state.specs.OldCalls.{twelveOf, statuses, shownAs, unsou
 use Rattle.four_state.proofs.ExactlyWhen.{zero-is-begun}
 use Rattle.four_state.specs.Exact.{oldAnswered, oldOutcome, answeredBy, exactBegunUnless, exactOldStep, answeredOnSound, SoundIfZero}
 
--- ---- the one condition under which the twelve's call of a sound state is still refused; what number stands beside it does not matter
+-- ---- the one condition under which the twelve's call of a sound state is still refused; its number does not matter
 
 -- the manager's state, where the call has no refusal from 4 on
 pub left-by-state : (s : model.State) (store : Store) (call : Call) (n : ℕ) → eqb (callNumber call) 4 ≡ false → ownRefusals s store call ≡ []

@@ -31,7 +31,8 @@ const ERROR_DURING_ACTIVATION: u8 = 2;
 
 const MISSING_DEPENDENCIES: u8 = 4;
 
-// Whether the manager's state is Ready and some need is not met in the staged table. A sound state meets what is required.
+// Says whether the manager's state is Ready and some need is not met in the staged table. Precondition: the session is sound and its list
+// has at most 16 entries; a sound state meets it.
 fn ready_with_unmet_needs(phase: Phase, session: Session) -> bool
     requires { ⌜ (session .count ≤ entriesMost) × (sessionSound (viewSession session) ≡ true) ⌝ }
     ensures { λ r. ⌜ r ≡ isReady (viewPhase phase) && not (needsMet (staged (viewSession session))) ⌝ }
@@ -42,7 +43,7 @@ fn ready_with_unmet_needs(phase: Phase, session: Session) -> bool
     !needs_met(staged(session))
 }
 
-// Activate of a state that is known to be sound, which `activate` checks.
+// Makes the call on a sound state. Precondition: the state is sound for the store; `activate` checks it.
 fn old_activate_on_sound(s: State, store: &[u8]) -> OldAnswered
     requires { ⌜ soundFor (viewState s) (length (now store)) ≡ true ⌝ }
     ensures { λ r. ⌜ oldOutcome r (now (store .entry)) ≡ answeredOnSound s (now (store .entry)) Activate ⌝ }
@@ -58,7 +59,7 @@ fn old_activate_on_sound(s: State, store: &[u8]) -> OldAnswered
     answer_by(activate_on_sound(s, store), ERROR_DURING_ACTIVATION)
 }
 
-// Activate: as the twelve's, and only with all needs met in the staged table.
+// Activate: does what the twelve's does, and only with all needs met in the staged table.
 pub fn activate(s: State, store: &[u8]) -> OldAnswered
     ensures meaning { λ r. ⌜ viewOldAnswered r (now (store .entry)) ≡ oldStep (viewState s) (now (store .entry)) Activate ⌝ }
     ensures exact { λ r. ⌜ oldOutcome r (now (store .entry)) ≡ exactOldStep s (now (store .entry)) Activate ⌝ }

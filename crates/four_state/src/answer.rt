@@ -23,7 +23,7 @@ pub fn old_answer(answer: u8, s: State) -> OldAnswered
     }
 }
 
-// What the twelve's call gave: 0 where it was accepted, and for any other refusal the old call's number.
+// Answers by what the twelve's call gave: 0 where it was accepted, and for any other refusal the old call's number.
 pub fn answer_by(made: Answered, other_refusal: u8) -> OldAnswered
     ensures { λ r. ⌜ r ≡ answeredBy made «other_refusal» ⌝ }
 {

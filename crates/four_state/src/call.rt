@@ -18,7 +18,7 @@ pub enum OldCall {
     Rollback,
 }
 
-// One of the four, from any state and bytes.
+// Makes one of the four, from any state and bytes.
 pub fn old_call(s: State, store: &[u8], call: OldCall) -> OldAnswered
     ensures meaning { λ r. ⌜ viewOldAnswered r (now (store .entry)) ≡ oldStep (viewState s) (now (store .entry)) call ⌝ }
     ensures exact { λ r. ⌜ oldOutcome r (now (store .entry)) ≡ exactOldStep s (now (store .entry)) call ⌝ }

@@ -18,7 +18,7 @@ const ERROR: u8 = 1;
 
 const OPERATION_NOT_PERMITTED: u8 = 2;
 
-// Cancel of the package with a transfer id.
+// Cancel: notes a cancel of the package with a transfer id.
 pub fn cancel(s: State, store: &[u8], id: u32) -> OldAnswered
     ensures meaning { λ r. ⌜ viewOldAnswered r (now (store .entry)) ≡ oldStep (viewState s) (now (store .entry)) (Cancel id) ⌝ }
     ensures exact { λ r. ⌜ oldOutcome r (now (store .entry)) ≡ exactOldStep s (now (store .entry)) (Cancel id) ⌝ }

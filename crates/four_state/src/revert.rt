@@ -18,7 +18,7 @@ const NOTHING_TO_REVERT: u8 = 1;
 
 const NOT_ABLE_TO_REVERT: u8 = 2;
 
-// Revert of the processed packages.
+// Revert: begins to revert the processed packages.
 pub fn revert(s: State, store: &[u8]) -> OldAnswered
     ensures meaning { λ r. ⌜ viewOldAnswered r (now (store .entry)) ≡ oldStep (viewState s) (now (store .entry)) Revert ⌝ }
     ensures exact { λ r. ⌜ oldOutcome r (now (store .entry)) ≡ exactOldStep s (now (store .entry)) Revert ⌝ }

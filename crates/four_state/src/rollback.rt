@@ -19,7 +19,7 @@ const NOTHING_TO_ROLL_BACK: u8 = 1;
 
 const NOT_ABLE_TO_ROLL_BACK: u8 = 2;
 
-// Rollback of the activated packages.
+// Rollback: begins to roll back the activated packages.
 pub fn rollback(s: State, store: &[u8]) -> OldAnswered
     ensures meaning { λ r. ⌜ viewOldAnswered r (now (store .entry)) ≡ oldStep (viewState s) (now (store .entry)) Rollback ⌝ }
     ensures exact { λ r. ⌜ oldOutcome r (now (store .entry)) ≡ exactOldStep s (now (store .entry)) Rollback ⌝ }

@@ -22,7 +22,7 @@ const STATUS: [u8; 9] = [
 // What a state that is not sound shows as.
 const NOT_SOUND: u8 = 255;
 
-// The status of any state and bytes.
+// Gives the status of any state and bytes.
 pub fn status(s: State, store: &[u8]) -> u8
     ensures { λ r. ⌜ r ≡ statusOf (viewState s) (now (store .entry)) ⌝ }
 {

@@ -1,5 +1,5 @@
--- "pass 11 to 15 in turn", and 21 beside them, decided on the beginning table and the number of staged clusters: each cluster is touched once, so what is
--- staged of an untouched one is what the beginning table has. proofs/Untouched.antt shows that it is `passInTurn`.
+-- "pass 11 to 15 in turn", and 21 beside them, decided on the beginning table and the number of staged clusters: each cluster is touched
+-- once, so what is staged of an untouched one is what the beginning table has. proofs/Untouched.antt shows that it is `passInTurn`.
 use Prim.Native.Nat.{ℕ, _+_, _-_}
 use mathlib.Core.Path.{_≡_}
 use mathlib.Core.Bool.{Bool, true, not, _&&_}

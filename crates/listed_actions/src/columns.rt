@@ -15,7 +15,8 @@ pub struct EntryColumns {
     pub parts: [u32; ENTRIES_MOST],
 }
 
-// The columns of the entries that count. Soundness sees before that their number fits.
+// Takes the columns out of the entries that count. Precondition: the count is at most 16; a sound state meets it, and `soundness` checks it
+// first.
 pub fn entry_columns(entries: [Entry; ENTRIES_MOST], count: usize) -> EntryColumns
     requires { ⌜ count ≤ entriesMost ⌝ }
     ensures { λ r. ⌜ EntryColumnsOf r (take count entries) count ⌝ }
@@ -37,7 +38,8 @@ pub fn entry_columns(entries: [Entry; ENTRIES_MOST], count: usize) -> EntryColum
     }
 }
 
-// Whether a number is among the first of a column. Columns of entries meet what is required.
+// Says whether a number is among the first of a column. Precondition: the count is at most 16 and the column has 16 places; its callers
+// pass a column of `EntryColumns` and at most the number of entries.
 pub fn is_among(numbers: &[u32; ENTRIES_MOST], count: usize, number: u32) -> bool
     requires { ⌜ (count ≤ entriesMost) × (length (now numbers) ≡ entriesMost) ⌝ }
     ensures { λ r. ⌜ r ≡ isAmong number (take count (now (numbers .entry))) ⌝ }

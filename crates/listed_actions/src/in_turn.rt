@@ -19,7 +19,7 @@ ghost use Rattle.actions.specs.View.{actionOf};
 ghost use Rattle.state.specs.View.{entriesMost};
 ghost use Rattle.listed_actions.specs.InTurn.{stagedAt, stagedAfter, PassesInTurn};
 
-// A place to read a version and a mark at: the cluster's in the columns, and the first where it is not there.
+// Gives a place to read a version and a mark at: the cluster's in the columns, and the first where it is not there.
 fn place_or_first(place: Found) -> usize
     ensures { λ r. ⌜ r ≡ placeOr 0 place ⌝ }
 {
@@ -29,8 +29,8 @@ fn place_or_first(place: Found) -> usize
     }
 }
 
-// What is staged of a cluster by its place in the beginning table, where no listed action touches it. The version and the mark are those
-// that stand there.
+// Says what is staged of a cluster by its place in the beginning table, where no listed action touches it. The version and the mark are
+// those at that place.
 fn staged_at(place: Found, version: Version, stays: bool) -> Staged
     ensures { λ r. ⌜ r ≡ stagedAt place version stays ⌝ }
 {
@@ -40,8 +40,8 @@ fn staged_at(place: Found, version: Version, stays: bool) -> Staged
     }
 }
 
-// The number of staged clusters after a change. pass_in_turn starts with the number of a table's clusters and adds at most one for
-// each entry.
+// Counts the staged clusters after a change. Precondition: they are fewer than a table and a list have room for together; `pass_in_turn`
+// starts with the number of a table's clusters and adds at most one for each entry.
 fn staged_after(change: Change, staged: usize) -> usize
     requires { ⌜ staged < clustersMost + entriesMost ⌝ }
     ensures { λ r. ⌜ ((c : PlainCluster) → r ≡ stagedAfter (actionOf change c) staged) ⌝ }
@@ -53,8 +53,9 @@ fn staged_after(change: Change, staged: usize) -> usize
     }
 }
 
-// Whether the first count of the listed actions pass 11 to 15 and 21 in turn on the table that the columns are of. The table and the
-// actions are within their limits; soundness checks that before, and that the counts fit.
+// Says whether the first count of the listed actions pass 11 to 15 and 21 in turn on the table that the columns are of, where the table and
+// the actions are within their limits. Precondition: both counts fit their arrays; `session_sound` checks the table and requires the count
+// of entries.
 pub fn pass_in_turn(columns: Columns, entries: [Entry; ENTRIES_MOST], count: usize) -> bool
     requires { ⌜ (columns .count ≤ clustersMost) × (count ≤ entriesMost) ⌝ }
     ensures { λ r. ⌜ PassesInTurn columns entries count r ⌝ }

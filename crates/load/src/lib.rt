@@ -14,7 +14,7 @@ ghost use mathlib.Core.Path.{_≡_};
 ghost use Rattle.state.specs.Outcome.{outcome, viewAnswered, SoundIfAccepted};
 ghost use Rattle.load.specs.Exact.{load, modelLoad};
 
-// The refusals that are cheap to see come first: they all have one number.
+// Checks first what is cheap to check: every refusal has the same number.
 pub fn load(s: State, list: &[u8], first: u32, store: &mut [u8]) -> Answered
     ensures meaning { λ r. ⌜ viewAnswered r (now (store .exit)) ≡ modelLoad s (now (list .entry)) first (now (store .entry)) ⌝ }
     ensures exact { λ r. ⌜ outcome r (now (store .exit)) ≡ load s (now (list .entry)) first (now (store .entry)) ⌝ }

@@ -26,7 +26,7 @@ ghost use Rattle.state.specs.View.{viewState};
 ghost use Rattle.state.specs.Outcome.{outcome, viewAnswered, SoundIfAccepted};
 ghost use Rattle.manager.specs.Accepts.{exactStep, exactStepOnSound, requestStep};
 
-// A call of a state that is known to be sound, which `call` checks. Only TransferData has a block.
+// Makes a call after refusal 1. Only TransferData has a block. Precondition: the state is sound for the store; `call` checks it.
 fn call_on_sound(s: State, store: &mut [u8], request: Request, block: &[u8]) -> Answered
     requires { ⌜ soundFor (viewState s) (length (now store)) ≡ true ⌝ }
     ensures { λ r. ⌜ outcome r (now (store .exit)) ≡ exactStepOnSound s (now (store .entry)) (callOf request (now (block .entry))) ⌝ }
@@ -47,7 +47,7 @@ fn call_on_sound(s: State, store: &mut [u8], request: Request, block: &[u8]) -> 
     }
 }
 
-// One of the twelve changing calls, from any state and bytes.
+// Makes one of the twelve changing calls, from any state and bytes.
 pub fn call(s: State, store: &mut [u8], request: Request, block: &[u8]) -> Answered
     ensures meaning { λ r. ⌜ viewAnswered r (now (store .exit)) ≡ requestStep s (now (store .entry)) request (now (block .entry)) ⌝ }
     ensures exact { λ r. ⌜ outcome r (now (store .exit)) ≡ exactStep s (now (store .entry)) (callOf request (now (block .entry))) ⌝ }

@@ -1,4 +1,4 @@
--- The checks of a package behind 4: what its area reads as decides, way out by way out. Assumes nothing.
+-- The checks of a package after refusal 4: what its area reads as decides, way out by way out. Assumes nothing.
 use Prim.Native.Nat.{ℕ, _+_, _-_, _≤_, _<_}
 use mathlib.Core.Path.{_≡_, refl, sym, ap, _∙_}
 use mathlib.Core.Bool.{true, false, not}

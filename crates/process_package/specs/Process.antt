@@ -45,7 +45,7 @@ abbrev pub checkedBy : PackageRead → Option ℕ → Checked
 checkedBy read (some number) = refusedCheck number
 checkedBy read none = record { number = 0; work = workOfPackage (packageRead read) }
 
--- by the first of the refusals behind 4
+-- by the first of the refusals after refusal 4
 abbrev pub checked : PackageState → PackageRead → Session → Checked
 checked packageState read session = checkedBy read (firstRefusal (processRefusals packageState read session))
 

@@ -31,13 +31,14 @@ ghost use Rattle.listed_actions.specs.Listed.{listedActions};
 ghost use Rattle.areas.specs.Inside.{AreaInside, readAt};
 ghost use Rattle.process_package.specs.Process.{workOfPackage, refusedCheck, checked};
 
-// The number of the first refusal behind 4 that applies, or 0, and the values that are kept, which are cleared when refused.
+// The number of the first refusal after refusal 4 that applies, or 0, and the values that are kept, which are cleared when refused.
 pub struct Checked {
     pub number: u32,
     pub work: Work,
 }
 
-// Whether the first count of the entries have the cluster with a part number. A sound state meets what is required.
+// Says whether the first count of the entries have the cluster with a part number. Precondition: the count is at most 16; a sound state
+// meets it.
 fn is_touched(entries: [Entry; ENTRIES_MOST], count: usize, part: u32) -> bool
     requires { ⌜ count ≤ entriesMost ⌝ }
     ensures { λ r. ⌜ r ≡ touched part (listedActions entries count) ⌝ }
@@ -46,8 +47,8 @@ fn is_touched(entries: [Entry; ENTRIES_MOST], count: usize, part: u32) -> bool
     is_among(&columns.parts, count, part)
 }
 
-// The number of the first of the refusals 11 to 15 and 21 of an action behind the session's list, or 0. A sound state meets what is
-// required.
+// Gives the number of the first of the refusals 11 to 15 and 21 of an action behind the session's list, or 0. Precondition: the session is
+// sound and its list has at most 16 entries; a sound state meets it.
 fn session_refusal(session: Session, action: Action) -> u32
     requires { ⌜ (session .count ≤ entriesMost) × (sessionSound (viewSession session) ≡ true) ⌝ }
     ensures { λ r. ⌜ r ≡ actionRefusal (staged (viewSession session)) (actions (viewEntries session)) (viewAction action) ⌝ }
@@ -59,7 +60,8 @@ fn session_refusal(session: Session, action: Action) -> u32
     action_refusal(table, in_list, action)
 }
 
-// The values that are kept of a package that was read. A store within its limit meets what is required.
+// Gives the values that are kept of a package that was read. Precondition: the payload's start and count are of 32 bits; a package in a
+// store of at most 16,777,216 bytes meets it.
 fn work_of_package(read: PackageRead) -> Work
     requires { ⌜ (read .start < 4294967296) × (read .count < 4294967296) ⌝ }
     ensures { λ r. ⌜ r ≡ workOfPackage read ⌝ }
@@ -77,7 +79,7 @@ fn work_of_package(read: PackageRead) -> Work
     }
 }
 
-// A refusal by its number.
+// Gives a refusal by its number, with cleared values.
 fn refused_check(number: u32) -> Checked
     ensures { λ r. ⌜ r ≡ refusedCheck number ⌝ }
 {
@@ -88,8 +90,8 @@ fn refused_check(number: u32) -> Checked
     }
 }
 
-// The checks behind 4 of the package p at i. The text of its area is read once. A call that found the package in a sound state meets
-// what is required.
+// Makes the checks after refusal 4 of the package p at i. The text of its area is read once. Precondition: the area of p at i lies in the
+// store, the session is sound and its list has at most 16 entries; a package that was found in a sound state meets it.
 pub fn check_package(t: Transfers, i: usize, p: Package, store: &[u8], session: Session) -> Checked
     requires { ⌜ AreaInside t i p (length (now store)) × ((session .count ≤ entriesMost) × (sessionSound (viewSession session) ≡ true)) ⌝ }
     ensures { λ r. ⌜ r ≡ checked (viewPackageState (p .state)) (readAt t i p (now (store .entry))) (viewSession session) ⌝ }

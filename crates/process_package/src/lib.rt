@@ -30,7 +30,8 @@ ghost use Rattle.state.specs.View.{viewState};
 ghost use Rattle.state.specs.Outcome.{outcome, viewAnswered, SoundIfAccepted};
 ghost use Rattle.process_package.specs.Process.{processingBegunAt, processCalled, processCalledOnSound};
 
-// The package p at i is Processing, with the values that are kept of it. A place that was found meets what is required.
+// Makes the package p at i Processing and keeps values of it. Precondition: i is below 16; a place that was found in a sound state meets
+// it.
 fn begin_processing(s: State, i: usize, p: Package, work: Work) -> Answered
     requires { ⌜ i < packagesMost ⌝ }
     ensures { λ r. ⌜ r ≡ processingBegunAt s i p work ⌝ }
@@ -47,7 +48,7 @@ fn begin_processing(s: State, i: usize, p: Package, work: Work) -> Answered
     answer_with(Answer::Done, begun)
 }
 
-// Process of a state that is known to be sound, which `process` checks.
+// Makes the call after refusal 1. Precondition: the state is sound for the store; `process` and `manager::call` check it.
 pub fn process_on_sound(s: State, store: &[u8], id: u32) -> Answered
     requires { ⌜ soundFor (viewState s) (length (now store)) ≡ true ⌝ }
     ensures { λ r. ⌜ outcome r (now (store .entry)) ≡ processCalledOnSound s (now (store .entry)) id ⌝ }
@@ -74,7 +75,7 @@ pub fn process_on_sound(s: State, store: &[u8], id: u32) -> Answered
     begin_processing(s, i, p, work)
 }
 
-// Process(id): from Idle or Ready to Processing.
+// Process(id): moves Idle or Ready to Processing.
 pub fn process(s: State, store: &[u8], id: u32) -> Answered
     ensures meaning { λ r. ⌜ viewAnswered r (now (store .entry)) ≡ step (viewState s) (now (store .entry)) (process id) ⌝ }
     ensures exact { λ r. ⌜ outcome r (now (store .entry)) ≡ processCalled s (now (store .entry)) id ⌝ }

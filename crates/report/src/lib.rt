@@ -36,7 +36,8 @@ ghost use Rattle.report.specs.Reported.{CleanUpFits, activatingReported,
 ghost use Rattle.report.specs.Reported.{cleanedUp, failedAnswer, failedPhase, cleaningUpReported, phaseReported};
 ghost use Rattle.report.specs.Reported.{reportCalled, reportCalledOnSound};
 
-// In Activating. An unmet need of the staged table is answered before a bad report: a missing package is looked for first.
+// Answers a report in Activating: an unmet need of the staged table comes before a bad report, because a missing package is looked for
+// first.
 fn answer_activating(s: State, good: bool, met: bool) -> Answered
     ensures { λ r. ⌜ r ≡ activatingReported s good met ⌝ }
 {
@@ -49,7 +50,7 @@ fn answer_activating(s: State, good: bool, met: bool) -> Answered
     answer_with(Answer::Done, in_phase(s, Phase::Verifying))
 }
 
-// In Activating. A sound state meets what is required.
+// Takes a report in Activating. Precondition: the session is sound and its list has at most 16 entries; a sound state meets it.
 fn report_activating(s: State, good: bool) -> Answered
     requires { ⌜ (s .session .count ≤ entriesMost) × (sessionSound (viewSession (s .session)) ≡ true) ⌝ }
     ensures { λ r. ⌜ r ≡ activatingReported s good (needsMet (viewTable (stagedTable (s .session)))) ⌝ }
@@ -59,7 +60,7 @@ fn report_activating(s: State, good: bool) -> Answered
     answer_activating(s, good, met)
 }
 
-// In Verifying.
+// Takes a report in Verifying.
 fn report_verifying(s: State, good: bool) -> Answered
     ensures { λ r. ⌜ r ≡ verifyingReported s good ⌝ }
 {
@@ -69,7 +70,7 @@ fn report_verifying(s: State, good: bool) -> Answered
     answer_with(Answer::VerificationFailed, in_phase(s, Phase::Verifying))
 }
 
-// The state that RollingBack came from.
+// Gives the state that RollingBack came from.
 fn rollback_phase(origin: RollbackOrigin) -> Phase
     ensures { λ r. ⌜ r ≡ rollbackPhase origin ⌝ }
 {
@@ -79,7 +80,7 @@ fn rollback_phase(origin: RollbackOrigin) -> Phase
     }
 }
 
-// In RollingBack, by where it came from.
+// Takes a report in RollingBack, by where it came from.
 fn report_rolling_back(s: State, origin: RollbackOrigin, good: bool) -> Answered
     ensures { λ r. ⌜ r ≡ rollingBackReported s origin good ⌝ }
 {
@@ -92,8 +93,8 @@ fn report_rolling_back(s: State, origin: RollbackOrigin, good: bool) -> Answered
     )
 }
 
-// A clean-up that was good: Idle, without the Processed packages, and the running table begins the next session. A sound state
-// meets what is required.
+// Ends a clean-up that was good: goes to Idle without the Processed packages, and the running table begins the next session. Precondition:
+// there are at most 16 packages, whose areas fit the store, and at most 16 entries; a sound state meets it.
 fn clean_up(s: State, store: &mut [u8], origin: CleanUpOrigin) -> Answered
     requires { ⌜ CleanUpFits s (length (now store)) ⌝ }
     ensures { λ r. ⌜ outcome r (now (store .exit)) ≡ cleanedUp s (now (store .entry)) origin ⌝ }
@@ -114,7 +115,7 @@ fn clean_up(s: State, store: &mut [u8], origin: CleanUpOrigin) -> Answered
     answer_with(Answer::Done, cleaned)
 }
 
-// The answer of a clean-up that was bad.
+// Gives the answer of a clean-up that was bad.
 fn failed_answer(origin: CleanUpOrigin) -> Answer
     ensures { λ r. ⌜ r ≡ failedAnswer origin ⌝ }
 {
@@ -125,7 +126,7 @@ fn failed_answer(origin: CleanUpOrigin) -> Answer
     }
 }
 
-// The manager's state after a clean-up that was bad.
+// Gives the manager's state after a clean-up that was bad.
 fn failed_phase(origin: CleanUpOrigin) -> Phase
     ensures { λ r. ⌜ r ≡ failedPhase origin ⌝ }
 {
@@ -136,7 +137,7 @@ fn failed_phase(origin: CleanUpOrigin) -> Phase
     }
 }
 
-// In CleaningUp. A sound state meets what is required.
+// Takes a report in CleaningUp. Precondition: that of `clean_up`; a sound state meets it.
 fn report_cleaning_up(s: State, store: &mut [u8], origin: CleanUpOrigin, good: bool) -> Answered
     requires { ⌜ CleanUpFits s (length (now store)) ⌝ }
     ensures { λ r. ⌜ outcome r (now (store .exit)) ≡ cleaningUpReported s (now (store .entry)) origin good ⌝ }
@@ -148,7 +149,8 @@ fn report_cleaning_up(s: State, store: &mut [u8], origin: CleanUpOrigin, good: b
     answer_with(answer, in_phase(s, failed_phase(origin)))
 }
 
-// Report in a manager's state, of a sound state. In the five that do not allow it, it is refused.
+// Takes a report in a manager's state, and refuses it in the five that do not allow it. Precondition: the state is sound for the store;
+// `report_on_sound` requires it too.
 fn report_in(s: State, store: &mut [u8], phase: Phase, good: bool) -> Answered
     requires { ⌜ soundFor (viewState s) (length (now store)) ≡ true ⌝ }
     ensures { λ r. ⌜ outcome r (now (store .exit)) ≡ phaseReported s (now (store .entry)) phase good ⌝ }
@@ -166,7 +168,7 @@ fn report_in(s: State, store: &mut [u8], phase: Phase, good: bool) -> Answered
     }
 }
 
-// Report of a state that is known to be sound, which `report` checks.
+// Makes the call after refusal 1. Precondition: the state is sound for the store; `report` and `manager::call` check it.
 pub fn report_on_sound(s: State, store: &mut [u8], good: bool) -> Answered
     requires { ⌜ soundFor (viewState s) (length (now store)) ≡ true ⌝ }
     ensures { λ r. ⌜ outcome r (now (store .exit)) ≡ reportCalledOnSound s (now (store .entry)) good ⌝ }
@@ -178,7 +180,7 @@ pub fn report_on_sound(s: State, store: &mut [u8], good: bool) -> Answered
     report_in(s, store, phase, good)
 }
 
-// Report(good or bad), from the machine.
+// Report(good or bad): takes what the machine reports.
 pub fn report(s: State, store: &mut [u8], good: bool) -> Answered
     ensures meaning { λ r. ⌜ viewAnswered r (now (store .exit)) ≡ step (viewState s) (now (store .entry)) (report good) ⌝ }
     ensures exact { λ r. ⌜ outcome r (now (store .exit)) ≡ reportCalled s (now (store .entry)) good ⌝ }

@@ -17,7 +17,8 @@ ghost use Rattle.state.specs.View.{viewState};
 ghost use Rattle.state.specs.Outcome.{outcome, viewAnswered, SoundIfAccepted};
 ghost use Rattle.session_calls.specs.Moved.{activateCalled, activateCalledOnSound};
 
-// Activate of a state that is known to be sound, which `activate` checks.
+// Makes the call after refusal 1. Precondition: the state is sound for the store; `activate`, `manager::call` and the old Activate check
+// it.
 pub fn activate_on_sound(s: State, store: &[u8]) -> Answered
     requires { ⌜ soundFor (viewState s) (length (now store)) ≡ true ⌝ }
     ensures { λ r. ⌜ outcome r (now (store .entry)) ≡ activateCalledOnSound s (now (store .entry)) ⌝ }
@@ -25,7 +26,7 @@ pub fn activate_on_sound(s: State, store: &[u8]) -> Answered
     move_to(s, ACTIVATE, Phase::Activating)
 }
 
-// Activate: Ready to Activating.
+// Activate: moves Ready to Activating.
 pub fn activate(s: State, store: &[u8]) -> Answered
     ensures meaning { λ r. ⌜ viewAnswered r (now (store .entry)) ≡ step (viewState s) (now (store .entry)) activate ⌝ }
     ensures exact { λ r. ⌜ outcome r (now (store .entry)) ≡ activateCalled s (now (store .entry)) ⌝ }

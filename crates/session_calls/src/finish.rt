@@ -20,7 +20,7 @@ ghost use Rattle.state.specs.View.{viewState};
 ghost use Rattle.state.specs.Outcome.{outcome, viewAnswered, SoundIfAccepted};
 ghost use Rattle.session_calls.specs.Moved.{finishOrigin, finishCalled, finishCalledOnSound};
 
-// Where CleaningUp comes from: of the two states that allow Finish, Activated or else RolledBack.
+// Says where CleaningUp comes from: of the two states that allow Finish, Activated or else RolledBack.
 fn finish_origin(phase: Phase) -> CleanUpOrigin
     ensures { λ r. ⌜ r ≡ finishOrigin phase ⌝ }
 {
@@ -30,7 +30,7 @@ fn finish_origin(phase: Phase) -> CleanUpOrigin
     CleanUpOrigin::RolledBack
 }
 
-// Finish of a state that is known to be sound, which `finish` checks.
+// Makes the call after refusal 1. Precondition: the state is sound for the store; `finish` and `manager::call` check it.
 pub fn finish_on_sound(s: State, store: &[u8]) -> Answered
     requires { ⌜ soundFor (viewState s) (length (now store)) ≡ true ⌝ }
     ensures { λ r. ⌜ outcome r (now (store .entry)) ≡ finishCalledOnSound s (now (store .entry)) ⌝ }
@@ -39,7 +39,7 @@ pub fn finish_on_sound(s: State, store: &[u8]) -> Answered
     move_to(s, FINISH, Phase::CleaningUp(finish_origin(phase)))
 }
 
-// Finish: Activated or RolledBack to CleaningUp, which keeps where it came from.
+// Finish: moves Activated or RolledBack to CleaningUp, which keeps where it came from.
 pub fn finish(s: State, store: &[u8]) -> Answered
     ensures meaning { λ r. ⌜ viewAnswered r (now (store .entry)) ≡ step (viewState s) (now (store .entry)) finish ⌝ }
     ensures exact { λ r. ⌜ outcome r (now (store .entry)) ≡ finishCalled s (now (store .entry)) ⌝ }

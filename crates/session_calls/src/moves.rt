@@ -10,7 +10,7 @@ use state::state::State;
 use state::state::in_phase;
 ghost use Rattle.session_calls.specs.Moved.{MovesTo};
 
-// A call with a number, behind 1: refused by 3, or the manager's state is the next one and all else as it was.
+// Makes a call with a number after refusal 1: refuses by 3, or moves the manager's state to the next one and leaves all else as it was.
 pub fn move_to(s: State, call: usize, next: Phase) -> Answered
     ensures { λ r. ⌜ MovesTo next s call r ⌝ }
 {

@@ -18,7 +18,7 @@ ghost use Rattle.state.specs.View.{viewState};
 ghost use Rattle.state.specs.Outcome.{outcome, viewAnswered, SoundIfAccepted};
 ghost use Rattle.session_calls.specs.Moved.{revertCalled, revertCalledOnSound};
 
-// Revert of a state that is known to be sound, which `revert` checks.
+// Makes the call after refusal 1. Precondition: the state is sound for the store; `revert`, `manager::call` and the old Revert check it.
 pub fn revert_on_sound(s: State, store: &[u8]) -> Answered
     requires { ⌜ soundFor (viewState s) (length (now store)) ≡ true ⌝ }
     ensures { λ r. ⌜ outcome r (now (store .entry)) ≡ revertCalledOnSound s (now (store .entry)) ⌝ }
@@ -26,7 +26,7 @@ pub fn revert_on_sound(s: State, store: &[u8]) -> Answered
     move_to(s, REVERT, Phase::CleaningUp(CleanUpOrigin::Ready))
 }
 
-// Revert: Ready to CleaningUp.
+// Revert: moves Ready to CleaningUp.
 pub fn revert(s: State, store: &[u8]) -> Answered
     ensures meaning { λ r. ⌜ viewAnswered r (now (store .entry)) ≡ step (viewState s) (now (store .entry)) revert ⌝ }
     ensures exact { λ r. ⌜ outcome r (now (store .entry)) ≡ revertCalled s (now (store .entry)) ⌝ }

@@ -20,7 +20,7 @@ ghost use Rattle.state.specs.View.{viewState};
 ghost use Rattle.state.specs.Outcome.{outcome, viewAnswered, SoundIfAccepted};
 ghost use Rattle.session_calls.specs.Moved.{rollbackOrigin, rollbackCalled, rollbackCalledOnSound};
 
-// Where RollingBack comes from: of the two states that allow Rollback, Verifying or else Activated.
+// Says where RollingBack comes from: of the two states that allow Rollback, Verifying or else Activated.
 fn rollback_origin(phase: Phase) -> RollbackOrigin
     ensures { λ r. ⌜ r ≡ rollbackOrigin phase ⌝ }
 {
@@ -30,7 +30,8 @@ fn rollback_origin(phase: Phase) -> RollbackOrigin
     RollbackOrigin::Activated
 }
 
-// Rollback of a state that is known to be sound, which `rollback` checks.
+// Makes the call after refusal 1. Precondition: the state is sound for the store; `rollback`, `manager::call` and the old Rollback check
+// it.
 pub fn rollback_on_sound(s: State, store: &[u8]) -> Answered
     requires { ⌜ soundFor (viewState s) (length (now store)) ≡ true ⌝ }
     ensures { λ r. ⌜ outcome r (now (store .entry)) ≡ rollbackCalledOnSound s (now (store .entry)) ⌝ }
@@ -39,7 +40,7 @@ pub fn rollback_on_sound(s: State, store: &[u8]) -> Answered
     move_to(s, ROLLBACK, Phase::RollingBack(rollback_origin(phase)))
 }
 
-// Rollback: Verifying or Activated to RollingBack, which keeps where it came from.
+// Rollback: moves Verifying or Activated to RollingBack, which keeps where it came from.
 pub fn rollback(s: State, store: &[u8]) -> Answered
     ensures meaning { λ r. ⌜ viewAnswered r (now (store .entry)) ≡ step (viewState s) (now (store .entry)) rollback ⌝ }
     ensures exact { λ r. ⌜ outcome r (now (store .entry)) ≡ rollbackCalled s (now (store .entry)) ⌝ }

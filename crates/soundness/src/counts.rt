@@ -15,14 +15,15 @@ pub struct Counts {
     pub processing: usize,
 }
 
-// What a package adds to a count.
+// Gives what a package adds to a count.
 fn one_if(holds: bool) -> usize
     ensures { λ r. ⌜ r ≡ cond holds 1 0 ⌝ }
 {
     if holds { 1 } else { 0 }
 }
 
-// The counts of the packages. transfers_sound checks their number before.
+// Counts the packages that are Processed and those that are Processing. Precondition: there are at most 16 packages; `transfers_sound`
+// checks it before.
 pub fn count_states(t: Transfers) -> Counts
     requires { ⌜ t .count ≤ packagesMost ⌝ }
     ensures { λ r. ⌜ r ≡ countsOf (viewPackages t) ⌝ }

@@ -25,7 +25,8 @@ ghost use Rattle.soundness.specs.Parts.{countedSession, workNumbersSound
 // The largest running sum: each is a remainder by 255.
 const RUNNING_SUM_MOST: u32 = 254;
 
-// The size of the package that is processing, and 0 where none is. transfers_sound checks before what is required.
+// Gives the size of the package that is processing, and 0 where none is. Precondition: there are at most 16 packages, each sound by itself,
+// and their ids rise; `transfers_sound` checks it before.
 fn processing_size(t: Transfers) -> u32
     requires { ⌜ (t .count ≤ packagesMost) × (packagesRise 0 (t .next) (viewPackages t) ≡ true) ⌝ }
     ensures { λ r. ⌜ r ≡ packageOf (processingId (viewPackages t)) (viewPackages t) .size ⌝ }
@@ -38,7 +39,7 @@ fn processing_size(t: Transfers) -> u32
     0
 }
 
-// Whether the kept numbers are those of a package of a size. A sum of two numbers of 32 bits does not wrap in 64.
+// Says whether the kept numbers are those of a package of a size. A sum of two numbers of 32 bits does not overflow 64 bits.
 fn numbers_sound(w: Work, size: u32) -> bool
     ensures { λ r. ⌜ r ≡ workNumbersSound w size ⌝ }
 {
@@ -49,7 +50,8 @@ fn numbers_sound(w: Work, size: u32) -> bool
                 & ((sums.c0 <= RUNNING_SUM_MOST) & (sums.c1 <= RUNNING_SUM_MOST))))
 }
 
-// The entries with an action behind the first count of them. Where a package is processing there is room for its action.
+// Puts an action behind the first count of the entries. Precondition: the count is below 16; in Processing `session_and_kept_sound`
+// requires it.
 fn with_action(
     entries: [Entry; ENTRIES_MOST],
     count: usize,
@@ -66,8 +68,9 @@ fn with_action(
     more
 }
 
-// Whether the session is sound and so are the kept values: in Processing their action passes after the listed ones, outside it they are
-// cleared. transfers_sound and list_sound check before what is required.
+// Says whether the session is sound and so are the kept values: in Processing their action passes after the listed ones, outside it they
+// are cleared. Precondition: there are at most 16 packages, each sound by itself, their ids rise, and there is room for the entries, in
+// Processing for one more; `transfers_sound` and `list_sound` check it before.
 pub fn session_and_kept_sound(
     phase: Phase,
     t: Transfers,

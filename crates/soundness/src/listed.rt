@@ -14,7 +14,8 @@ ghost use Rattle.model.specs.Sound.{packagesMost};
 ghost use Rattle.state.specs.View.{viewPackages, viewPhase, entriesMost};
 ghost use Rattle.soundness.specs.Parts.{countedEntries, listPartSound, ProcessedAsListed};
 
-// Whether exactly the packages that are Processed have their ids among those listed. list_sound meets what is required.
+// Says whether exactly the packages that are Processed have their ids among those listed. Precondition: there are at most 16 packages and
+// at most 16 listed ids; `list_sound` requires the one and has checked the other.
 fn processed_as_listed(t: Transfers, ids: [u32; ENTRIES_MOST], listed: usize) -> bool
     requires { ⌜ (t .count ≤ packagesMost) × (listed ≤ entriesMost) ⌝ }
     ensures { λ r. ⌜ ProcessedAsListed t ids listed r ⌝ }
@@ -32,8 +33,8 @@ fn processed_as_listed(t: Transfers, ids: [u32; ENTRIES_MOST], listed: usize) ->
     true
 }
 
-// Whether the listed entries are those of exactly the Processed packages, and the manager's state goes with their number and with
-// the packages that are Processing. transfers_sound checks the number of packages before.
+// Says whether the listed entries are those of exactly the Processed packages, and the manager's state goes with their number and with the
+// packages that are Processing. Precondition: there are at most 16 packages; `transfers_sound` checks it before.
 pub fn list_sound(phase: Phase, t: Transfers, entries: [Entry; ENTRIES_MOST], count: usize) -> bool
     requires { ⌜ t .count ≤ packagesMost ⌝ }
     ensures { λ r. ⌜ r ≡ listPartSound (viewPhase phase) (viewPackages t) (countedEntries entries count) ⌝ }

@@ -13,7 +13,7 @@ ghost use Rattle.model.specs.Areas.{declared};
 ghost use Rattle.model.specs.Sound.{storeMost, packagesMost, storeSound, receivedSound, packageSound, packagesRise, transfersSound};
 ghost use Rattle.state.specs.View.{viewPackage, viewPackages, viewTransfers};
 
-// Received is at most the size, and equal to it past Transferring.
+// Says whether the bytes received are at most the size, and equal to it past Transferring.
 fn received_sound(p: Package) -> bool
     ensures { λ r. ⌜ r ≡ receivedSound (viewPackage p) ⌝ }
 {
@@ -24,7 +24,7 @@ fn received_sound(p: Package) -> bool
     p.received == p.size
 }
 
-// A package by itself.
+// Says whether a package is sound by itself.
 fn package_sound(p: Package) -> bool
     ensures { λ r. ⌜ r ≡ packageSound (viewPackage p) ⌝ }
 {
@@ -32,8 +32,9 @@ fn package_sound(p: Package) -> bool
     (1 <= p.id) & ((1 <= p.size) & (received & (p.blocks <= p.received)))
 }
 
-// Whether the ids rise and are below the next one, each package is sound and its area ends within the store. An area starts within the
-// store, so its end does not wrap. transfers_sound checks before what is required.
+// Says whether the ids rise and are below the next one, each package is sound and its area ends within the store. An area starts within the
+// store, so its end does not overflow. Precondition: there are at most 16 packages and the store is within its limit; `transfers_sound`
+// checks both before.
 fn packages_rise(t: Transfers, store_length: usize) -> bool
     requires { ⌜ (t .count ≤ packagesMost) × («store_length» ≤ storeMost) ⌝ }
     ensures { λ r. ⌜ r ≡ packagesRise 0 (t .next) (viewPackages t) && leb (declared (viewPackages t)) «store_length» ⌝ }
@@ -59,7 +60,7 @@ fn packages_rise(t: Transfers, store_length: usize) -> bool
     true
 }
 
-// Whether the packages, the next id and the store's length are within their limits, and the areas fit the store.
+// Says whether the packages, the next id and the store's length are within their limits, and the areas fit the store.
 pub fn transfers_sound(t: Transfers, store_length: usize) -> bool
     ensures { λ r. ⌜ r ≡ storeSound (viewPackages t) «store_length» && transfersSound (viewTransfers t) ⌝ }
 {

@@ -5,7 +5,7 @@ use state::phase::Phase;
 use state::phase::phase_number;
 ghost use Rattle.soundness.specs.Parts.{PhaseFits};
 
-// Whether the manager's state goes with a number of packages that are Processing and a number of listed entries.
+// Says whether the manager's state goes with a number of packages that are Processing and a number of listed entries.
 pub fn phase_fits(phase: Phase, processing: usize, count: usize) -> bool
     ensures { λ r. ⌜ PhaseFits phase processing count r ⌝ }
 {

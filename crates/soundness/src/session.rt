@@ -18,7 +18,7 @@ ghost use Rattle.state.specs.View.{entriesMost};
 ghost use Rattle.listed_actions.specs.Listed.{listedActions};
 ghost use Rattle.soundness.specs.Parts.{actionsSound};
 
-// Of a remove only the part number counts.
+// Says whether an action is within its limits. Of a remove only the part number counts.
 fn action_within(action: Action) -> bool
     ensures { λ r. ⌜ r ≡ actionWithin (viewAction action) ⌝ }
 {
@@ -31,7 +31,7 @@ fn action_within(action: Action) -> bool
     }
 }
 
-// Whether each listed action is within its limits. session_sound passes on what it requires of their number.
+// Says whether each listed action is within its limits. Precondition: the count is at most 16; `session_sound` requires it too.
 fn actions_within(entries: [Entry; ENTRIES_MOST], count: usize) -> bool
     requires { ⌜ count ≤ entriesMost ⌝ }
     ensures { λ r. ⌜ r ≡ actionsWithin (listedActions entries count) ⌝ }
@@ -48,8 +48,8 @@ fn actions_within(entries: [Entry; ENTRIES_MOST], count: usize) -> bool
     true
 }
 
-// Whether the beginning table and the first count of the listed actions are within their limits and the actions pass 11 to 15 and 21
-// in turn. list_sound sees before that there is room for them.
+// Says whether the beginning table and the first count of the listed actions are within their limits and the actions pass 11 to 15 and 21
+// in turn. Precondition: the count is at most 16; `session_and_kept_sound` requires the room for it.
 pub fn session_sound(beginning: Table, entries: [Entry; ENTRIES_MOST], count: usize) -> bool
     requires { ⌜ count ≤ entriesMost ⌝ }
     ensures { λ r. ⌜ r ≡ actionsSound (viewTable beginning) (listedActions entries count) ⌝ }

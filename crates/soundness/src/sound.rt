@@ -7,7 +7,7 @@ ghost use mathlib.Core.Path.{_≡_};
 ghost use Rattle.model.specs.Sound.{soundFor};
 ghost use Rattle.state.specs.View.{viewState};
 
-// Whether a state is sound for a store of a length.
+// Says whether a state is sound for a store of a length.
 pub fn sound(s: State, store_length: usize) -> bool
     ensures { λ r. ⌜ r ≡ soundFor (viewState s) «store_length» ⌝ }
 {

@@ -9,7 +9,8 @@ ghost use Prim.Native.Nat.{_≤_};
 ghost use Rattle.state.specs.View.{entriesMost};
 ghost use Rattle.staging.specs.Staged.{stagedTable, runsStaged, runningTable};
 
-// The session's beginning table with the listed actions applied, in order. A sound state meets what is required.
+// Gives the session's beginning table with the listed actions applied, in order. Precondition: the list has at most 16 entries; a sound
+// state meets it.
 pub fn staged(session: Session) -> Table
     requires { ⌜ session .count ≤ entriesMost ⌝ }
     ensures { λ r. ⌜ r ≡ stagedTable session ⌝ }
@@ -25,7 +26,7 @@ pub fn staged(session: Session) -> Table
     table
 }
 
-// Whether the staged table runs in a manager's state.
+// Says whether the staged table runs in a manager's state.
 fn runs_staged(phase: Phase) -> bool
     ensures { λ r. ⌜ r ≡ runsStaged phase ⌝ }
 {
@@ -46,7 +47,7 @@ fn runs_staged(phase: Phase) -> bool
     }
 }
 
-// The running table. A sound state meets what is required.
+// Gives the running table. Precondition: the list has at most 16 entries; a sound state meets it.
 pub fn running(phase: Phase, session: Session) -> Table
     requires { ⌜ session .count ≤ entriesMost ⌝ }
     ensures { λ r. ⌜ r ≡ runningTable phase session ⌝ }

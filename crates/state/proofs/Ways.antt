@@ -42,7 +42,7 @@ give-transfers answer t t′ s s′ r e f g = rw (g, f, e)
 pub give-store : (r r′ : Answered) (store store′ : Store) → r′ ≡ r → store′ ≡ store → outcome r′ store′ ≡ outcome r store
 give-store r r′ store store′ e f = rw (e, f)
 
--- ---- behind 1
+-- ---- after refusal 1
 
 module _ (s : State) (store : Store) where
   -- by the number that a check of the parts answers

@@ -41,7 +41,7 @@ abbrev pub viewPackage : Package → model.Package
 viewPackage p =
     record { id = p .id; size = p .size; received = p .received; blocks = p .blocks; state = viewPackageState (p .state) }
 
--- what stands in an unused place
+-- what an unused place holds
 abbrev pub clearedPackage : Package
 clearedPackage = record { id = 0; size = 0; received = 0; blocks = 0; state = Transferring }
 

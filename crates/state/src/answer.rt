@@ -26,7 +26,7 @@ pub struct Answered {
     pub state: State,
 }
 
-// A refusal gives back the very state that came in.
+// Refuses by a number and gives back the very state that came in.
 pub fn refused(s: State, number: u32) -> Answered
     ensures { λ r. ⌜ r ≡ refusedBy s number ⌝ }
 {
@@ -45,7 +45,7 @@ pub fn answer_with(answer: Answer, s: State) -> Answered
     }
 }
 
-// Whether an answer is a refusal.
+// Says whether an answer is a refusal.
 pub fn is_refusal(answer: Answer) -> bool
     ensures { λ r. ⌜ r ≡ isRefusal answer ⌝ }
 {

@@ -20,7 +20,7 @@ pub struct Package {
     pub state: PackageState,
 }
 
-// A package of a size, started with an id: nothing received.
+// Gives a package of a size with an id, of which nothing is received.
 pub fn new_package(id: u32, size: u32) -> Package
     ensures { λ r. ⌜ r ≡ newPackage id size ⌝ }
 {
@@ -33,7 +33,7 @@ pub fn new_package(id: u32, size: u32) -> Package
     }
 }
 
-// A package in another state.
+// Gives the package in another state.
 pub fn in_state(p: Package, state: PackageState) -> Package
     ensures { λ r. ⌜ r ≡ inState state p ⌝ }
 {
@@ -46,8 +46,8 @@ pub fn in_state(p: Package, state: PackageState) -> Package
     }
 }
 
-// A package after an accepted block of a length. TransferData sees before that the block fits the declared size, which is of 32
-// bits, and that the blocks are at most the bytes received.
+// Gives the package after an accepted block of a length. Precondition: the bytes received and the blocks stay numbers of 32 bits;
+// TransferData accepts only a block that fits the declared size, which is of 32 bits, and the blocks are at most the bytes received.
 pub fn with_block(p: Package, block_length: u32) -> Package
     requires { ⌜ (p .received + «block_length» < 4294967296) × (p .blocks + 1 < 4294967296) ⌝ }
     ensures { λ r. ⌜ r ≡ withBlock «block_length» p ⌝ }

@@ -171,7 +171,7 @@ const PERMISSIONS: [[bool; CALLS]; 9] = [
     ],
 ];
 
-// Whether the manager's state allows a call. A number that no call has is allowed in none.
+// Says whether the manager's state allows a call. A number that no call has is allowed in none.
 pub fn allowed(phase: Phase, call: usize) -> bool
     ensures { λ r. ⌜ r ≡ allowedNumber (viewPhase phase) call ⌝ }
 {

@@ -47,7 +47,7 @@ pub const ROLLED_BACK: usize = 7;
 
 pub const CLEANING_UP: usize = 8;
 
-// The number of the manager's state.
+// Gives document 01's number of the manager's state.
 pub fn phase_number(phase: Phase) -> usize
     ensures { λ r. ⌜ r ≡ phaseNumber (viewPhase phase) ⌝ }
 {

@@ -21,7 +21,7 @@ pub struct Session {
     pub count: usize,
 }
 
-// A session with an empty list. Every unused place is cleared.
+// Begins a session with a table and an empty list. Every unused place is cleared.
 pub fn new_session(beginning: Table) -> Session
     ensures { λ r. ⌜ r ≡ newSession beginning ⌝ }
 {
@@ -37,7 +37,8 @@ pub fn new_session(beginning: Table) -> Session
     }
 }
 
-// A session with one entry more, behind the others. Work sees before that there is room: a listed package is one of the Processed.
+// Adds an entry behind the others. Precondition: the list has room; Work meets it, because the list has the Processed packages, and one of
+// the at most 16 is still processing.
 pub fn with_entry(session: Session, entry: Entry) -> Session
     requires { ⌜ session .count < entriesMost ⌝ }
     ensures { λ r. ⌜ r ≡ withEntry session entry ⌝ }

@@ -1,4 +1,4 @@
-// The whole state: what every call is handed and gives back.
+// The whole state: what each call that may change it is handed and gives back.
 use crate::phase::Phase;
 use crate::session::Session;
 use crate::session::new_session;
@@ -10,7 +10,7 @@ use clusters::table::Table;
 ghost use mathlib.Core.Path.{_≡_};
 ghost use Rattle.state.specs.Exact.{loadedState, inPhase, withTransfers, withWork};
 
-// The kept values stand beside the phase: a state in another phase is a change of one field.
+// The kept values are a field of their own and not part of the phase Processing; outside Processing a sound state has them cleared.
 pub struct State {
     pub phase: Phase,
     pub transfers: Transfers,
@@ -18,7 +18,7 @@ pub struct State {
     pub work: Work,
 }
 
-// The state that Load gives: Idle, with no package, a table and the first id to be given.
+// Gives the state after Load: Idle, with no package, a table and the first id to be given.
 pub fn loaded_state(table: Table, first: u32) -> State
     ensures { λ r. ⌜ r ≡ loadedState table first ⌝ }
 {
@@ -33,7 +33,7 @@ pub fn loaded_state(table: Table, first: u32) -> State
     }
 }
 
-// A state in another phase.
+// Gives the state in another phase, with all else as it was.
 pub fn in_phase(s: State, phase: Phase) -> State
     ensures { λ r. ⌜ r ≡ inPhase phase s ⌝ }
 {
@@ -48,7 +48,7 @@ pub fn in_phase(s: State, phase: Phase) -> State
     }
 }
 
-// A state with other transfers.
+// Gives the state with other transfers.
 pub fn with_transfers(s: State, transfers: Transfers) -> State
     ensures { λ r. ⌜ r ≡ withTransfers transfers s ⌝ }
 {
@@ -57,7 +57,7 @@ pub fn with_transfers(s: State, transfers: Transfers) -> State
     changed
 }
 
-// A state with other kept values.
+// Gives the state with other kept values.
 pub fn with_work(s: State, work: Work) -> State
     ensures { λ r. ⌜ r ≡ withWork work s ⌝ }
 {

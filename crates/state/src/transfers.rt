@@ -15,7 +15,7 @@ pub struct Transfers {
     pub next: u64,
 }
 
-// No packages, with the first id to be given. Every unused place is cleared.
+// Gives no packages, with the first id to be given. Every unused place is cleared.
 pub fn no_transfers(first: u32) -> Transfers
     ensures { λ r. ⌜ r ≡ noTransfers first ⌝ }
 {
@@ -28,7 +28,8 @@ pub fn no_transfers(first: u32) -> Transfers
     }
 }
 
-// Another package in the place of the one at i. A place that was found is below the count, which fits.
+// Puts a package in the place of the one at i. Precondition: i is below 16; the calls find i below the count, which is at most 16 in a
+// sound state.
 pub fn with_package(t: Transfers, i: usize, p: Package) -> Transfers
     requires { ⌜ i < packagesMost ⌝ }
     ensures { λ r. ⌜ r ≡ withPackage i p t ⌝ }
@@ -42,8 +43,8 @@ pub fn with_package(t: Transfers, i: usize, p: Package) -> Transfers
     }
 }
 
-// A package of a size behind the others, with the next id, which then rises by one. TransferStart sees before that there is room
-// for a package and an id for it.
+// Adds a package of a size behind the others, with the next id, which then rises by one. Precondition: there are fewer than 16 packages and
+// the next id is of 32 bits; TransferStart refuses otherwise.
 pub fn with_new_package(t: Transfers, size: u32) -> Transfers
     requires { ⌜ (t .count < packagesMost) × (t .next < 4294967296) ⌝ }
     ensures { λ r. ⌜ r ≡ withNewPackage size t ⌝ }

@@ -18,7 +18,7 @@ pub struct Work {
     pub cancel_noted: bool,
 }
 
-// The kept values and the cancel note cleared.
+// Gives the kept values and the cancel note cleared.
 pub fn cleared_work() -> Work
     ensures { λ r. ⌜ r ≡ clearedWork ⌝ }
 {
@@ -51,7 +51,7 @@ fn is_no_version(v: Version) -> bool
     (v.first == 0) & ((v.second == 0) & ((v.third == 0) & (v.fourth == 0)))
 }
 
-// Whether the kept values and the cancel note are cleared. Unused places play no part.
+// Says whether the kept values and the cancel note are cleared. Unused places play no part.
 pub fn is_cleared_work(w: Work) -> bool
     ensures { λ r. ⌜ r ≡ isClearedWork w ⌝ }
 {

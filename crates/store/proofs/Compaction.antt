@@ -1,7 +1,7 @@
 -- Compaction by one pass. "Deleting moves later areas down whole and fills the bytes between the new and the old end of the last area
 -- with 0": the packages are passed in order, each area that is kept is moved down behind those kept before it, and at the end the
 -- bytes from the new end up to the old one are cleared. Then the store is the model's `deleted`.
--- The invariant, in the form "what is left": deleting from the old store is what stands below `to` now, and behind it what deleting the
+-- The invariant, in the form "what is left": deleting from the old store gives the bytes below `to` now, and behind them what deleting the
 -- packages from i on makes of the bytes from `from` on. Assumes that the areas fit the store.
 use mathlib.Core.Path.{_≡_, refl, sym, ap, _∙_}
 use mathlib.Core.Bool.{Bool, true, false}

@@ -1,4 +1,4 @@
--- The bytes after a move down of bytes that lie in the store: what stands in front of its new end and what from there on; then a move
+-- The bytes after a move down of bytes that lie in the store: those in front of its new end and those from there on; then a move
 -- of the area behind it, and the clearing of the bytes between the new and the old end. Assumes nothing.
 use mathlib.Core.Path.{_≡_, sym, _∙_}
 use mathlib.Core.List.{_++_, append-assoc}

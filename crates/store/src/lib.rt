@@ -4,7 +4,7 @@ ghost use mathlib.Core.Path.{_≡_};
 ghost use lib.ListN.{length, replicate};
 ghost use Rattle.store.specs.Positions.{written, cleared, movedDown};
 
-// Every byte becomes 0: what Load does to the store.
+// Fills all bytes with 0: what Load does to the store.
 pub fn clear(bytes: &mut [u8])
     ensures { λ _. ⌜ now (bytes .exit) ≡ replicate (length (now (bytes .entry))) 0 ⌝ }
 {
@@ -15,7 +15,7 @@ pub fn clear(bytes: &mut [u8])
     }
 }
 
-// The bytes from `from` up to `to` become 0: the part is lent to `clear`.
+// Fills the bytes from `from` up to `to` with 0: the part is lent to `clear`.
 pub fn clear_part(store: &mut [u8], from: usize, to: usize)
     ensures { λ _. ⌜ now (store .exit) ≡ cleared from to (now (store .entry)) ⌝ }
 {
@@ -28,7 +28,7 @@ pub fn clear_part(store: &mut [u8], from: usize, to: usize)
     clear(&mut store[from..to]);
 }
 
-// A block is written from `at` on: the part of the store from there is lent to the copier.
+// Writes a block from `at` on: the part of the store from there is lent to the copier.
 pub fn put_block(store: &mut [u8], at: usize, block: &[u8])
     ensures { λ _. ⌜ now (store .exit) ≡ written at (now (block .entry)) (now (store .entry)) ⌝ }
 {
@@ -41,8 +41,8 @@ pub fn put_block(store: &mut [u8], at: usize, block: &[u8])
     bytes::copy(block, &mut store[at..]);
 }
 
-// The `count` bytes from `from` on are moved down to `to`, the lowest first, so that each is read before it is overwritten. Where the
-// two are one place there is nothing to do.
+// Moves the `count` bytes from `from` on down to `to`, the lowest first, so that each is read before it is overwritten. Where the two are
+// one place there is nothing to do.
 pub fn move_down(store: &mut [u8], from: usize, to: usize, count: usize)
     ensures { λ _. ⌜ now (store .exit) ≡ movedDown from to count (now (store .entry)) ⌝ }
 {

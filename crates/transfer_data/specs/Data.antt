@@ -17,7 +17,7 @@ use Rattle.areas.specs.Inside.{AreaInside}
 use Rattle.areas.specs.Changed.{withChanged}
 use Rattle.store.specs.Positions.{written}
 
--- what is known of a block of a size that none of them refuses, for the package p at i, in a store of a length
+-- what is known of a block of a size where no refusal applies, for the package p at i, in a store of a length
 pub record BlockFits (t : Transfers) (i : ℕ) (p : Struct) (storeLength size : ℕ) : Type 0 where
   pub inside : AreaInside t i p storeLength
   pub some : 1 ≤ size

@@ -28,7 +28,8 @@ ghost use Rattle.state.specs.View.{viewPackage, viewState};
 ghost use Rattle.state.specs.Outcome.{outcome, viewAnswered, SoundIfAccepted};
 ghost use Rattle.transfer_data.specs.Data.{BlockFits, blockReceivedAt, dataCalled, dataCalledOnSound, dataStep};
 
-// The number of the first of TransferData's own refusals behind 4 that applies, or 0. A sound state meets what is required.
+// Gives the number of the first of TransferData's own refusals after refusal 4 that applies, or 0. Precondition: the bytes received are at
+// most the size; each package of a sound state meets it.
 fn data_refusal(p: Package, counter: u32, block_length: usize) -> u32
     requires { ⌜ p .received ≤ p .size ⌝ }
     ensures { λ r. ⌜ r ≡ numberOrZero (firstRefusal (dataRefusals (viewPackage p) counter «block_length»)) ⌝ }
@@ -47,8 +48,9 @@ fn data_refusal(p: Package, counter: u32, block_length: usize) -> u32
     0
 }
 
-// A block that fits is written behind the bytes that the package p at i received so far, and counted there. What is required is known
-// where none of the refusals applies.
+// Writes a block behind the bytes that the package p at i received so far, and counts it there. Precondition: the area of p at i lies in
+// the store, the block has bytes and fits the size, and the blocks are at most the bytes received; a sound state meets it where no refusal
+// applies.
 fn accept_block(s: State, store: &mut [u8], i: usize, p: Package, block: &[u8]) -> Answered
     requires { ⌜ BlockFits (s .transfers) i p (length (now store)) (length (now block)) ⌝ }
     ensures { λ r. ⌜ outcome r (now (store .exit)) ≡ blockReceivedAt s (now (store .entry)) i p (now (block .entry)) ⌝ }
@@ -59,7 +61,7 @@ fn accept_block(s: State, store: &mut [u8], i: usize, p: Package, block: &[u8]) 
     answer_with(Answer::Done, with_transfers(s, changed))
 }
 
-// TransferData of a state that is known to be sound, which `transfer_data` checks.
+// Makes the call after refusal 1. Precondition: the state is sound for the store; `transfer_data` and `manager::call` check it.
 pub fn transfer_data_on_sound(
     s: State,
     store: &mut [u8],

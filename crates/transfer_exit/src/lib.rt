@@ -35,8 +35,8 @@ ghost use Rattle.state.specs.Outcome.{outcome, answered, viewAnswered, SoundIfA
 ghost use Rattle.areas.specs.Inside.{AreaInside, readAt};
 ghost use Rattle.transfer_exit.specs.Exit.{exitCalled, exitCalledOnSound};
 
-// The number of the first of TransferExit's own refusals behind 4 that applies to the package p at i, or 0. A call that found the
-// package meets what is required.
+// Gives the number of the first of TransferExit's own refusals after refusal 4 that applies to the package p at i, or 0. Precondition: the
+// area of p at i lies in the store; a package that was found in a sound state meets it.
 fn exit_refusal(t: Transfers, i: usize, p: Package, store: &[u8]) -> u32
     requires { ⌜ AreaInside t i p (length (now store)) ⌝ }
     ensures { λ r. ⌜ r ≡ numberOrZero (firstRefusal (exitRefusals (viewPackage p) (readAt t i p (now (store .entry))))) ⌝ }
@@ -52,7 +52,7 @@ fn exit_refusal(t: Transfers, i: usize, p: Package, store: &[u8]) -> u32
     area_refusal(&store[start..start + p.size as usize])
 }
 
-// The package p at i is Transferred. A place that was found meets what is required.
+// Makes the package p at i Transferred. Precondition: i is below 16; a place that was found in a sound state meets it.
 fn accept_package(s: State, i: usize, p: Package) -> Answered
     requires { ⌜ i < packagesMost ⌝ }
     ensures { λ r. ⌜ r ≡ answered Done (withTransfers (withPackage i (inState Transferred p) (s .transfers)) s) ⌝ }
@@ -62,7 +62,7 @@ fn accept_package(s: State, i: usize, p: Package) -> Answered
     answer_with(Answer::Done, with_transfers(s, changed))
 }
 
-// TransferExit of a state that is known to be sound, which `transfer_exit` checks.
+// Makes the call after refusal 1. Precondition: the state is sound for the store; `transfer_exit` and `manager::call` check it.
 pub fn transfer_exit_on_sound(s: State, store: &[u8], id: u32) -> Answered
     requires { ⌜ soundFor (viewState s) (length (now store)) ≡ true ⌝ }
     ensures { λ r. ⌜ outcome r (now (store .entry)) ≡ exitCalledOnSound s (now (store .entry)) id ⌝ }

@@ -29,7 +29,7 @@ ghost use Rattle.state.specs.View.{viewState};
 ghost use Rattle.state.specs.Outcome.{outcome, viewAnswered, SoundIfAccepted};
 ghost use Rattle.transfer_start.specs.Start.{startCalled, startCalledOnSound};
 
-// The number of the first of TransferStart's own refusals that applies, or 0.
+// Gives the number of the first of TransferStart's own refusals that applies, or 0.
 fn start_refusal(size: u32, count: usize, free: usize, next: u64) -> u32
     ensures { λ r. ⌜ r ≡ numberOrZero (firstRefusal (startRefusals size count free next)) ⌝ }
 {
@@ -48,7 +48,7 @@ fn start_refusal(size: u32, count: usize, free: usize, next: u64) -> u32
     0
 }
 
-// TransferStart of a state that is known to be sound, which `transfer_start` checks.
+// Makes the call after refusal 1. Precondition: the state is sound for the store; `transfer_start` and `manager::call` check it.
 pub fn transfer_start_on_sound(s: State, store: &[u8], size: u32) -> Answered
     requires { ⌜ soundFor (viewState s) (length (now store)) ≡ true ⌝ }
     ensures { λ r. ⌜ outcome r (now (store .entry)) ≡ startCalledOnSound s (now (store .entry)) size ⌝ }

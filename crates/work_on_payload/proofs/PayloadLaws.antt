@@ -44,7 +44,7 @@ part-inside count (suc at) n [] h = rw (take-nil n)
 part-inside count (suc at) zero (x ∷ l) h = absurd (omega arith)
 part-inside count (suc at) (suc n) (x ∷ l) h = part-inside count at n l (omega arith)
 
--- bytes that are taken of what stands from the area's start on are the area's
+-- bytes that are taken of those from the area's start on are the area's
 pub taken-inside : (w : Work) (n size : ℕ) (l : List ℕ) → w .done ≤ w .count → w .start + w .count ≡ size
     → workOn w n l ≡ workOn w n (take size l)
 taken-inside w n size l done whole =

@@ -21,7 +21,7 @@ ghost use Rattle.model.specs.Sound.{packagesMost};
 ghost use Rattle.state.specs.View.{entriesMost};
 ghost use Rattle.work_on_payload.specs.Ending.{phaseAfter, ended, sumCompared};
 
-// The manager's state after an ending, by the number of entries of the session's list.
+// Gives the manager's state after an ending, by the number of entries of the session's list.
 fn phase_after(count: usize) -> Phase
     ensures { λ r. ⌜ r ≡ phaseAfter count ⌝ }
 {
@@ -31,7 +31,8 @@ fn phase_after(count: usize) -> Phase
     Phase::Ready
 }
 
-// Processing ends: the package at i goes to a state. A place that was found meets what is required.
+// Ends processing: the package at i goes to a state. Precondition: i is below 16; in a sound state the place of the package that is
+// processing meets it.
 pub fn end_processing(
     t: Transfers,
     i: usize,
@@ -55,8 +56,8 @@ pub fn end_processing(
     answer_with(answer, ended)
 }
 
-// With no payload left the sum decides, and the action of a package that is Processed joins the session's list. A sound state meets what
-// is required.
+// Compares the sum when no payload is left, and lists the action of a package that is then Processed. Precondition: i is below 16, the
+// running sums are at most 254 and the list has room; a sound state in Processing meets it, and `take_payload` keeps the sums so.
 pub fn compare_sum(t: Transfers, i: usize, session: Session, w: Work) -> Answered
     requires { ⌜ (i < packagesMost) × (sumsWithin (w .«running_sums») ≡ true) × (session .count < entriesMost) ⌝ }
     ensures { λ r. ⌜ r ≡ sumCompared t i session w ⌝ }

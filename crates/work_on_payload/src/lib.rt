@@ -29,7 +29,8 @@ ghost use Rattle.state.specs.View.{viewState};
 ghost use Rattle.state.specs.Outcome.{outcome, viewAnswered, SoundIfAccepted};
 ghost use Rattle.work_on_payload.specs.Work.{workedAt, workCalled, workCalledOnSound, WorkFits};
 
-// Work on the package at i, the one that is processing. A noted cancel comes before any payload. A sound state meets what is required.
+// Works on the package at i, the one that is processing. A noted cancel comes before any payload. Precondition: its area and payload lie in
+// the store and the session's list has room; a sound state in Processing meets it.
 fn accept_work(s: State, store: &[u8], i: usize, n: u32) -> Answered
     requires { ⌜ WorkFits s i (length (now store)) ⌝ }
     ensures { λ r. ⌜ r ≡ workedAt s (now (store .entry)) i n ⌝ }
@@ -48,7 +49,7 @@ fn accept_work(s: State, store: &[u8], i: usize, n: u32) -> Answered
     compare_sum(t, i, session, after)
 }
 
-// Work of a state that is known to be sound, which `work` checks.
+// Makes the call after refusal 1. Precondition: the state is sound for the store; `work` and `manager::call` check it.
 pub fn work_on_sound(s: State, store: &[u8], n: u32) -> Answered
     requires { ⌜ soundFor (viewState s) (length (now store)) ≡ true ⌝ }
     ensures { λ r. ⌜ outcome r (now (store .entry)) ≡ workCalledOnSound s (now (store .entry)) n ⌝ }

@@ -7,7 +7,8 @@ ghost use Rattle.model.specs.Step.{taken};
 ghost use Rattle.state.specs.View.{keptWork};
 ghost use Rattle.work_on_payload.specs.Payload.{workOn, PayloadInside};
 
-// How many bytes a Work of n takes: n, or what is left. `take_payload` meets what is required.
+// Counts the bytes that a Work of n takes: n, or what is left. Precondition: the bytes done are at most the payload; `take_payload`
+// requires it too.
 fn count_taken(w: Work, n: u32) -> u32
     requires { ⌜ w .done ≤ w .count ⌝ }
     ensures { λ r. ⌜ r ≡ taken (keptWork w) n ⌝ }
@@ -19,8 +20,9 @@ fn count_taken(w: Work, n: u32) -> u32
     left
 }
 
-// The kept values after n bytes more of the payload, or what is left of it. The package's area starts at the byte area of the store. A
-// sound state meets what is required.
+// Takes n bytes more of the payload, or what is left of it, into the sum. The package's area starts at the byte `area` of the store.
+// Precondition: the payload lies in the store, the bytes done are at most the payload and the running sums at most 254; a sound state in
+// Processing meets it.
 pub fn take_payload(w: Work, store: &[u8], area: usize, n: u32) -> Work
     requires { ⌜ PayloadInside w area (length (now store)) ⌝ }
     ensures { λ r. ⌜ r ≡ workOn w n (drop area (now (store .entry))) ⌝ }

@@ -1,5 +1,5 @@
--- `transfer_start::transfer_start` meets its contract: refused by 1, or what the call of a sound state gives; its clauses follow from the exact
--- one. Assumes nothing.
+-- `transfer_start::transfer_start` meets its contract: refused by 1, or what the call of a sound state gives; its clauses follow from the
+-- exact one. Assumes nothing.
 use borrow.Author.Needs.{needs}
 use mathlib.Core.Path.{_≡_}
 use lib.ListN.{length}

@@ -1,5 +1,5 @@
 -- `areas::deletion::delete_areas` meets its contract. The loop's invariant: the areas of the first i packages are passed, and deleting
--- from the old store is what stands in front of the new end now and what deleting the packages left makes of the bytes behind the
+-- from the old store gives the bytes in front of the new end now and what deleting the packages left makes of the bytes behind the
 -- old one. The measure is what is left of the packages. Assumes nothing.
 use borrow.Author.Needs.{needs}
 use native.Mathlib.Omega.{arith}

@@ -1,5 +1,5 @@
 -- `listed_actions::in_turn::pass_in_turn` meets its contract. The loop's invariant: of each table that the columns are of, the list passes
--- in turn exactly where what stands from i on passes after the first i, with so many clusters staged. The measure is what is left of the
+-- in turn exactly where the rest from i on passes after the first i, with so many clusters staged. The measure is what is left of the
 -- list. Assumes nothing.
 use borrow.Author.Needs.{needs}
 use native.Mathlib.Omega.{arith}

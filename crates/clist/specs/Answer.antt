@@ -2,9 +2,10 @@
 use Prim.Native.Nat.{ℕ}
 use mathlib.Core.Path.{_≡_}
 use mathlib.Core.List.{List, [], _∷_, _++_}
-use lib.ListN.{take}
+use lib.ListN.{length, take}
 use Rattle.base.specs.Quoted.{bytes, LF}
 use Rattle.text.specs.Digits.{digits}
+use Rattle.text.specs.Put.{Put}
 use Rattle.model.specs.State.{State}
 use Rattle.model.specs.Calls.{Reply, refused, accepted}
 use Rattle.model.specs.Load.{load}
@@ -26,3 +27,8 @@ answerTo given input = printed (load given input firstId [] .reply) (load given 
 -- what was read of an input into a buffer of that many bytes: reading stops where the input ends or the buffer is full
 abbrev pub ReadInto : ℕ → List ℕ → List ℕ → Type 0
 ReadInto room input read = read ≡ take room input
+
+-- what is put at the start of a buffer is printed of every input of which so many bytes were read
+abbrev pub AnswersAll : List ℕ → ℕ → List ℕ → ℕ → List ℕ → Type 0
+AnswersAll read count old end new =
+    (given : State) (input : List ℕ) → ReadInto (length read) input (take count read) → Put old 0 (answerTo given input) end new

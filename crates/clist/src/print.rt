@@ -1,13 +1,12 @@
 // What is printed of an input.
-ghost use Prim.Native.Nat.{ℕ, _≤_, _<_};
-ghost use mathlib.Core.List.{List};
-ghost use lib.ListN.{length, take};
+ghost use Prim.Native.Nat.{_≤_, _<_};
+ghost use lib.ListN.{length};
 ghost use Rattle.io.specs.Counts.{Counts};
 ghost use Rattle.text.specs.Put.{Put};
 ghost use Rattle.cluster_list.specs.Read.{readListMost};
 ghost use Rattle.cluster_list.specs.Write.{writtenListMost};
 ghost use Rattle.model.specs.State.{State};
-ghost use Rattle.clist.specs.Answer.{answerTo, ReadInto};
+ghost use Rattle.clist.specs.Answer.{answerTo, AnswersAll};
 use cluster_info::cluster_info;
 use clusters::table::empty_table;
 use load::load;
@@ -19,9 +18,9 @@ use text::write::put_bytes;
 // The first transfer id.
 const FIRST_ID: u32 = 1;
 
-// What is printed of a whole input, at the start of a buffer with room for the longest list; `put_answer_to_read` has such a buffer. Load
-// is lent a store of no bytes, because nothing is transferred, and handed a state that plays no part. A loaded state is sound and the
-// buffer has room, so ClusterInfo is not refused.
+// Puts what is printed of a whole input at the start of a buffer. Load is lent a store of no bytes, because nothing is transferred, and
+// handed a state that plays no part. A loaded state is sound and the buffer has room, so ClusterInfo is not refused. Precondition: the
+// buffer has room for the longest list; `put_answer_to_read` requires it.
 fn put_answer(input: &[u8], buf: &mut [u8]) -> usize
     requires { ⌜ writtenListMost ≤ length (now buf) ⌝ }
     ensures { λ r. ⌜ ((given : State) → Put (now (buf .entry)) 0 (answerTo given (now (input .entry))) r (now (buf .exit))) ⌝ }
@@ -40,11 +39,12 @@ fn put_answer(input: &[u8], buf: &mut [u8]) -> usize
     written
 }
 
-// What is printed of every input of which `count` bytes were read into a buffer: all, or as many as it has. It has more than a list can
-// have, so an input that does not fit it is refused whatever follows. `main` lends such buffers.
+// Puts what is printed of every input of which `count` bytes were read into a buffer: all, or as many as it has. It has more than a list
+// can have, so an input that does not fit it is refused whatever follows. Precondition: the buffers have that room, and the bytes stand in
+// the first; `main` lends such buffers, and `read_parts` counts the bytes.
 pub fn put_answer_to_read(read: &[u8], count: usize, buf: &mut [u8]) -> usize
     requires { ⌜ (readListMost < length (now read)) × Counts count (now read) × (writtenListMost ≤ length (now buf)) ⌝ }
-    ensures answer { λ r. ⌜ ((given : State) (input : List ℕ) → ReadInto (length (now (read .entry))) input (take count (now (read .entry))) → Put (now (buf .entry)) 0 (answerTo given input) r (now (buf .exit))) ⌝ }
+    ensures answer { λ r. ⌜ AnswersAll (now (read .entry)) count (now (buf .entry)) r (now (buf .exit)) ⌝ }
     ensures inside { λ r. ⌜ Counts r (now (buf .exit)) ⌝ }
 {
     put_answer(&read[..count], buf)

@@ -56,6 +56,10 @@ unfoldable pub afterGathered : Option (List ℕ) → Held → Held
 afterGathered none h = h
 afterGathered (some line) h = afterLine line h
 
+-- the same of what is gathered in a buffer
+abbrev pub afterEnded : Gathered → List ℕ → Kept → Store → Held
+afterEnded g line k bytes = afterGathered (lineSoFar g line) (held k bytes)
+
 -- the program between two parts of the input: what it holds, and the line that is being gathered
 pub record Reading : Type 0 where
   pub holds : Held
@@ -76,6 +80,14 @@ abbrev pub afterLinePart : Bool → Option (List ℕ) → Held → Reading
 afterLinePart ended line h =
     cond ended (between (afterGathered line h) (some [])) (between h line)
 
+-- the same of what is gathered in a buffer
+abbrev pub afterGatheredPart : Bool → Gathered → List ℕ → Kept → Store → Reading
+afterGatheredPart ended g line k bytes = afterLinePart ended (lineSoFar g line) (held k bytes)
+
 -- after a part of the input that has no LF but its last byte, with so much room for a line
 unfoldable pub afterPart : ℕ → List ℕ → Reading → Reading
 afterPart room part r = afterLinePart (endsLine part) (withPart room (r .line) part) (r .holds)
+
+-- the same of a bench, whose line buffer is that room
+abbrev pub benchAfterPart : Bench → List ℕ → Store → List ℕ → Reading
+benchAfterPart b line bytes part = afterPart (length line) part (reading b line bytes)

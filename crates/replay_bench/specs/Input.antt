@@ -4,9 +4,12 @@ use mathlib.Core.Path.{_≡_}
 use mathlib.Core.Bool.{Bool, true, cond}
 use mathlib.Core.List.{List, [], _∷_}
 use lib.Dec.{eqb}
+use lib.ListN.{length}
 use Rattle.base.specs.Quoted.{LF}
+use Rattle.model.specs.State.{Store}
 use Rattle.script.specs.Gathered.{withPart}
-use Rattle.replay_bench.specs.Bench.{Reading, afterLinePart}
+use Rattle.replay_bench.specs.declared.bench.Bench.{Bench}
+use Rattle.replay_bench.specs.Bench.{Reading, reading, afterLinePart}
 
 -- after one byte, with so much room for a line
 unfoldable pub afterByte : ℕ → ℕ → Reading → Reading
@@ -25,3 +28,8 @@ upToLineEnd (b ∷ l) = cond (eqb b LF) (b ∷ []) (b ∷ upToLineEnd l)
 -- where the program goes on, what was to be read is what is read; where a write has failed, nothing is said
 pub record IfGoesOn (on : Bool) (all read : Reading) : Type 0 where
   pub same : on ≡ true → all ≡ read
+
+-- a bench with its line buffer and its store takes an input, and these are the bench, the line and the store then
+abbrev pub TakesInput : Bench → List ℕ → Store → List ℕ → Bench → List ℕ → Store → Type 0
+TakesInput b line bytes input b′ line′ bytes′ =
+    IfGoesOn (b′ .«goes_on») (afterBytes (length line) input (reading b line bytes)) (reading b′ line′ bytes′)

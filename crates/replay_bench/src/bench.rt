@@ -15,7 +15,7 @@ pub struct Bench {
     pub goes_on: bool,
 }
 
-// The bench before the first read.
+// Gives the bench before the first read.
 pub fn first_bench() -> Bench
     ensures { λ r. ⌜ NothingRead r ⌝ }
 {
@@ -28,7 +28,7 @@ pub fn first_bench() -> Bench
     }
 }
 
-// The bench with what is kept and gathered; it goes on where all was written.
+// Gives the bench with what is kept and gathered; it goes on where all was written.
 pub fn bench_after(kept: Kept, gathered: Gathered, is_written: bool) -> Bench
     ensures { λ r. ⌜ r ≡ benchAfter kept gathered «is_written» ⌝ }
 {
@@ -39,7 +39,7 @@ pub fn bench_after(kept: Kept, gathered: Gathered, is_written: bool) -> Bench
     }
 }
 
-// The bench after a read that failed, or at the end of the input.
+// Gives the bench after a read that failed, or at the end of the input.
 pub fn stopped(bench: Bench) -> Bench
     ensures { λ r. ⌜ r ≡ benchAfter (bench .kept) (bench .gathered) false ⌝ }
 {

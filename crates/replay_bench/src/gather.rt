@@ -3,9 +3,8 @@ ghost use mathlib.Core.Path.{_≡_};
 ghost use mathlib.Core.Bool.{true};
 ghost use Prim.Native.Nat.{_+_, _≤_, _<_};
 ghost use lib.ListN.{length, drop};
-ghost use Rattle.script.specs.Gathered.{lineSoFar};
-ghost use Rattle.replay_bench.specs.Bench.{held, afterGathered, reading, endsLine, afterLinePart, afterPart};
-ghost use Rattle.replay_bench.specs.Input.{upToLineEnd, afterBytes, IfGoesOn};
+ghost use Rattle.replay_bench.specs.Bench.{held, afterEnded, reading, endsLine, afterGatheredPart, benchAfterPart};
+ghost use Rattle.replay_bench.specs.Input.{upToLineEnd, TakesInput};
 use crate::bench::Bench;
 use crate::bench::bench_after;
 use crate::play::AfterLine;
@@ -17,7 +16,7 @@ use script::gathered::gather;
 use script::gathered::nothing_gathered;
 use script_calls::kept::Kept;
 
-// The answer to a line that has ended. `read_all` has a buffer that is as long as that of the line; so below.
+// Answers a line that has ended. Precondition: the buffer is as long as that of the line; `play_standard_input` has such buffers. So below.
 fn end_line(
     kept: Kept,
     bytes: &mut [u8],
@@ -26,7 +25,7 @@ fn end_line(
     buffer: &mut [u8],
 ) -> AfterLine
     requires { ⌜ length (now line) ≤ length (now buffer) ⌝ }
-    ensures { λ r. ⌜ held (r .kept) (now (bytes .exit)) ≡ afterGathered (lineSoFar gathered (now (line .entry))) (held kept (now (bytes .entry))) ⌝ }
+    ensures { λ r. ⌜ held (r .kept) (now (bytes .exit)) ≡ afterEnded gathered (now (line .entry)) kept (now (bytes .entry)) ⌝ }
 {
     let count = gathered.count;
     if gathered.is_too_long {
@@ -38,7 +37,7 @@ fn end_line(
     play_line(kept, bytes, &line[..count], buffer)
 }
 
-// Whether a part ends a line; `take_part` has one with a byte.
+// Says whether a part ends a line. Precondition: the part has a byte; `take_part` requires it.
 fn ends_line(part: &[u8]) -> bool
     requires { ⌜ 1 ≤ length (now part) ⌝ }
     ensures { λ r. ⌜ r ≡ endsLine (now (part .entry)) ⌝ }
@@ -46,7 +45,7 @@ fn ends_line(part: &[u8]) -> bool
     part[part.len() - 1] == b'\n'
 }
 
-// The bench with what is gathered of a line, which is answered where it has ended.
+// Gives the bench with what is gathered of a line, and answers the line where it has ended.
 fn answer_part(
     kept: Kept,
     bytes: &mut [u8],
@@ -56,7 +55,8 @@ fn answer_part(
     buffer: &mut [u8],
 ) -> Bench
     requires { ⌜ length (now line) ≤ length (now buffer) ⌝ }
-    ensures { λ r. ⌜ reading r (now (line .entry)) (now (bytes .exit)) ≡ afterLinePart «has_ended» (lineSoFar gathered (now (line .entry))) (held kept (now (bytes .entry))) ⌝ }
+    ensures { λ r. ⌜ reading r (now (line .entry)) (now (bytes .exit))
+        ≡ afterGatheredPart «has_ended» gathered (now (line .entry)) kept (now (bytes .entry)) ⌝ }
 {
     if !has_ended {
         return bench_after(kept, gathered, true);
@@ -66,7 +66,8 @@ fn answer_part(
     bench_after(next, nothing_gathered(), after.is_written)
 }
 
-// A part of the input up to the next LF, or up to its end; `behind_line` gives one with a byte. No line is played once the program ends.
+// Takes a part of the input up to the next LF, or up to its end. Precondition: the part has a byte, as `behind_line` gives it, and the
+// program goes on, which `take_lines` has tested.
 fn take_part(
     bench: Bench,
     bytes: &mut [u8],
@@ -75,7 +76,8 @@ fn take_part(
     buffer: &mut [u8],
 ) -> Bench
     requires { ⌜ (1 ≤ length (now part)) × (length (now line) ≤ length (now buffer)) × (bench .«goes_on» ≡ true) ⌝ }
-    ensures { λ r. ⌜ reading r (now (line .exit)) (now (bytes .exit)) ≡ afterPart (length (now (line .entry))) (now (part .entry)) (reading bench (now (line .entry)) (now (bytes .entry))) ⌝ }
+    ensures { λ r. ⌜ reading r (now (line .exit)) (now (bytes .exit))
+        ≡ benchAfterPart bench (now (line .entry)) (now (bytes .entry)) (now (part .entry)) ⌝ }
 {
     let before = bench.gathered;
     let gathered = gather(line, before, part);
@@ -83,7 +85,7 @@ fn take_part(
     answer_part(kept, bytes, gathered, ends_line(part), line, buffer)
 }
 
-// The position behind the next LF, or the end. `take_lines` gives a position within the input.
+// Finds the position behind the next LF, or the end. Precondition: the position is within the input; `take_lines` has tested it.
 fn behind_line(input: &[u8], at: usize) -> usize
     requires { ⌜ at < length (now input) ⌝ }
     ensures { λ r. ⌜ (at < r) × (r ≤ length (now (input .entry))) × (r ≡ at + length (upToLineEnd (drop at (now (input .entry))))) ⌝ }
@@ -95,7 +97,7 @@ fn behind_line(input: &[u8], at: usize) -> usize
     end
 }
 
-// Every line of a part of the input, and what is left behind the last. Where a write fails, the rest is not taken.
+// Takes every line of a part of the input, and what is left behind the last. Where a write fails, the rest is not taken.
 pub fn take_lines(
     bench: Bench,
     bytes: &mut [u8],
@@ -104,7 +106,8 @@ pub fn take_lines(
     buffer: &mut [u8],
 ) -> Bench
     requires { ⌜ length (now line) ≤ length (now buffer) ⌝ }
-    ensures { λ r. ⌜ IfGoesOn (r .«goes_on») (afterBytes (length (now (line .entry))) (now (input .entry)) (reading bench (now (line .entry)) (now (bytes .entry)))) (reading r (now (line .exit)) (now (bytes .exit))) ⌝ }
+    ensures { λ r. ⌜ TakesInput bench (now (line .entry)) (now (bytes .entry)) (now (input .entry))
+        r (now (line .exit)) (now (bytes .exit)) ⌝ }
 {
     let mut now = bench;
     let mut at = 0;
@@ -119,7 +122,7 @@ pub fn take_lines(
     now
 }
 
-// At the end of the input a line without LF is `unknown`.
+// Answers a line without LF at the end of the input: it is `unknown`.
 pub fn take_end(bench: Bench) {
     let gathered = bench.gathered;
     if gathered.is_too_long | (0 < gathered.count) {

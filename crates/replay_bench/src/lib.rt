@@ -24,21 +24,22 @@ use libc::STDIN_FILENO;
 use script::limits::LINE_MOST;
 use script::limits::STORE_MOST;
 
-// The bytes of the program's store. That there are so many is what lending them as a slice needs; so below.
+// Gives the bytes of the program's store. The contract says how many they are, so that they can be lent as a slice; so below.
 fn store_bytes() -> [u8; STORE_MOST as usize]
     ensures { λ r. ⌜ storeMost ≡ length r ⌝ }
 {
     [0; STORE_MOST as usize]
 }
 
-// Room for a line, or for the bytes of one.
+// Gives room for a line, or for the bytes of one.
 fn line_bytes() -> [u8; LINE_MOST]
     ensures { λ r. ⌜ lineMost ≡ length r ⌝ }
 {
     [0; LINE_MOST]
 }
 
-// Reads once and plays what came. Nothing is read once a read or a write has failed or the input has ended.
+// Reads once and plays what came. Precondition: the buffer is as long as that of the line, as `play_standard_input` lends them, and no read
+// or write has failed and the input has not ended, which `read_all` has tested.
 fn read_some(
     bench: Bench,
     bytes: &mut [u8],
@@ -63,7 +64,8 @@ fn read_some(
     take_lines(bench, bytes, line, &input[..count], buffer)
 }
 
-// A proved loop has to end, and nothing says that an input does: the turns count down from a number that no run uses up.
+// Reads and plays until the program ends. A proved loop has to end, and nothing says that an input does: the turns count down from a number
+// that no run uses up. Precondition: the buffer is as long as that of the line; `play_standard_input` lends such buffers.
 fn read_all(bytes: &mut [u8], line: &mut [u8], input: &mut [u8], buffer: &mut [u8])
     requires { ⌜ length (now line) ≤ length (now buffer) ⌝ }
 {

@@ -7,6 +7,7 @@ use packages_report::Record;
 use reading_reply::ReadingReply;
 use script_answers::named::put_record;
 
+// Writes a record.
 fn show_record(record: Record) -> bool {
     let mut line = [0u8; 44];
     let end = put_record(
@@ -19,7 +20,7 @@ fn show_record(record: Record) -> bool {
     show_text(&line[..end])
 }
 
-// The first records of a list, so many as are asked for, and at most all.
+// Writes the first records of a list, so many as are asked for, and at most all.
 fn show_records(list: [Record; LIST_MOST], count: usize) -> bool {
     let mut i = 0;
     while i < LIST_MOST {
@@ -35,7 +36,7 @@ fn show_records(list: [Record; LIST_MOST], count: usize) -> bool {
     true
 }
 
-// The reply, and the records where there are some.
+// Writes the reply, and the records where there are some.
 pub fn show_packages(report: PackagesByValue) -> bool {
     let reply = report.answer;
     let is_written = show_reply(b"packages ", reply);

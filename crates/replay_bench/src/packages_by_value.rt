@@ -25,7 +25,7 @@ pub struct PackagesByValue {
     pub list: [Record; LIST_MOST],
 }
 
-// The list before it is lent.
+// Gives the list before it is lent.
 fn cleared_list() -> [Record; LIST_MOST]
     ensures { λ r. ⌜ r ≡ replicate recordsMost clearedRecord ⌝ }
 {
@@ -33,14 +33,14 @@ fn cleared_list() -> [Record; LIST_MOST]
     [cleared; LIST_MOST]
 }
 
-// How much of the list is lent.
+// Says how much of the list is lent.
 fn room_within(room: usize) -> usize
     ensures { λ r. ⌜ r ≡ lentCount room recordsMost ⌝ }
 {
     lent(room, LIST_MOST)
 }
 
-// The result.
+// Gives the answer with the list.
 fn with_list(answer: ReadingReply, list: [Record; LIST_MOST]) -> PackagesByValue
     ensures { λ r. ⌜ (r .answer ≡ answer) × (r .list ≡ list) ⌝ }
 {
@@ -50,7 +50,7 @@ fn with_list(answer: ReadingReply, list: [Record; LIST_MOST]) -> PackagesByValue
     }
 }
 
-// Packages into the first places of the list, so many as room says, and at most all.
+// Makes Packages into the first places of the list, so many as room says, and at most all.
 pub fn packages_by_value(s: State, store: &[u8], room: usize) -> PackagesByValue
     ensures answer { λ r. ⌜ replyOf (r .answer) ≡ packagesReply (viewState s) (now (store .entry)) (lentCount room recordsMost) ⌝ }
     ensures list { λ r. ⌜ r .list ≡ reportBuffer (replyOf (r .answer)) (listed s) (replicate recordsMost clearedRecord) ⌝ }

@@ -24,7 +24,7 @@ pub struct AfterLine {
     pub is_written: bool,
 }
 
-// The answer to a line that changes nothing, on the part of the program's bytes that is lent.
+// Writes the answer to a line that changes nothing, on the part of the program's bytes that is lent.
 fn show_reading(s: State, store: &[u8], read: ScriptLine, line: &[u8], buffer: &mut [u8]) -> bool {
     if let ScriptLine::Remark = read {
         return show_text(line);
@@ -32,7 +32,7 @@ fn show_reading(s: State, store: &[u8], read: ScriptLine, line: &[u8], buffer: &
     reading_line(s, store, read, buffer)
 }
 
-// The answer to a line.
+// Writes the answer to a line.
 fn show_line_answer(
     answer: LineAnswer,
     kept: Kept,
@@ -53,6 +53,7 @@ fn show_line_answer(
     }
 }
 
+// Gives what is kept after a line, and whether its answer was written.
 pub fn after_line(kept: Kept, is_written: bool) -> AfterLine
     ensures { λ r. ⌜ r ≡ lineAfter kept «is_written» ⌝ }
 {
@@ -62,7 +63,7 @@ pub fn after_line(kept: Kept, is_written: bool) -> AfterLine
     }
 }
 
-// The answer to a line that was played is written.
+// Writes the answer to a line that was played.
 fn answer_played(
     played: Played,
     bytes: &[u8],
@@ -78,7 +79,8 @@ fn answer_played(
     after_line(kept, is_written)
 }
 
-// A line without its LF, and with it. `end_line` has a buffer that is as long as the line; so below.
+// Plays a line, which is given without its LF, and with it for a remark. Precondition: the buffer is as long as the line; `play_line`
+// requires it.
 fn play_text(kept: Kept, bytes: &mut [u8], text: &[u8], line: &[u8], buffer: &mut [u8]) -> AfterLine
     requires { ⌜ length (now text) ≤ length (now buffer) ⌝ }
     ensures { λ r. ⌜ held (r .kept) (now (bytes .exit)) ≡ afterText (now (text .entry)) (held kept (now (bytes .entry))) ⌝ }
@@ -88,7 +90,7 @@ fn play_text(kept: Kept, bytes: &mut [u8], text: &[u8], line: &[u8], buffer: &mu
     answer_played(played, bytes, read, line, buffer)
 }
 
-// How many bytes a line has before its LF.
+// Counts the bytes of a line before its LF.
 fn text_length(count: usize) -> usize
     ensures { λ r. ⌜ r ≡ count - 1 ⌝ }
 {
@@ -98,7 +100,7 @@ fn text_length(count: usize) -> usize
     count - 1
 }
 
-// A line with its LF.
+// Plays a line with its LF. Precondition: the buffer is as long as the line; `end_line` requires one as long as the line's buffer.
 pub fn play_line(kept: Kept, bytes: &mut [u8], line: &[u8], buffer: &mut [u8]) -> AfterLine
     requires { ⌜ length (now line) ≤ length (now buffer) ⌝ }
     ensures { λ r. ⌜ held (r .kept) (now (bytes .exit)) ≡ afterLine (now (line .entry)) (held kept (now (bytes .entry))) ⌝ }

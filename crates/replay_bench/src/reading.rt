@@ -22,7 +22,7 @@ use script_calls::lent::lent;
 use state::answer::Answer;
 use state::state::State;
 
-// A number of a report as 32 bits: each is far below their end.
+// Gives a number of a report in 32 bits: each is far below their end.
 fn in_32_bits(n: usize) -> u32 {
     if 4294967295 < n {
         return 4294967295;
@@ -30,7 +30,8 @@ fn in_32_bits(n: usize) -> u32 {
     n as u32
 }
 
-// The reply of a reading call: a refusal, or its number by a name, which each caller has shorter than 20 bytes.
+// Writes the reply of a reading call: a refusal, or its number by a name. Precondition: the name has at most 20 bytes; each caller gives a
+// literal that is shorter.
 pub fn show_reply(name: &[u8], reply: ReadingReply) -> bool
     requires { ⌜ length (now name) ≤ 20 ⌝ }
 {
@@ -41,7 +42,7 @@ pub fn show_reply(name: &[u8], reply: ReadingReply) -> bool
     }
 }
 
-// The reply of a report, and the bytes that it wrote.
+// Writes the reply of a report, and the bytes that the report wrote.
 fn show_report(reply: ReadingReply, buffer: &[u8]) -> bool {
     let is_written = show_reply(b"bytes ", reply);
     let ReadingReply::Given(n) = reply else {
@@ -56,14 +57,14 @@ fn show_report(reply: ReadingReply, buffer: &[u8]) -> bool {
     show_text(&buffer[..n])
 }
 
-// ClusterInfo into the first bytes of a buffer, so many as the line says, and at most all.
+// Makes ClusterInfo into the first bytes of a buffer, so many as the line says, and at most all.
 fn clusters_line(s: State, store: &[u8], room: u32, buffer: &mut [u8]) -> bool {
     let count = lent(room as usize, buffer.len());
     let reply = cluster_info(s, store, &mut buffer[..count]);
     show_report(reply, buffer)
 }
 
-// ChangeInfo into the first bytes of a buffer, likewise.
+// Makes ChangeInfo into the first bytes of a buffer, likewise.
 fn changes_line(s: State, store: &[u8], room: u32, buffer: &mut [u8]) -> bool {
     let count = lent(room as usize, buffer.len());
     let reply = change_info(s, store, &mut buffer[..count]);

@@ -38,7 +38,7 @@ pub fn show_state(s: State, store: &[u8]) -> bool {
     show_text(&line[..end])
 }
 
-// A name of at most 20 bytes, as each caller's is, and a number.
+// Writes a name and a number. Precondition: the name has at most 20 bytes; each caller gives a literal that is shorter.
 pub fn show_number(name: &[u8], n: u32) -> bool
     requires { ⌜ length (now name) ≤ 20 ⌝ }
 {
@@ -47,7 +47,7 @@ pub fn show_number(name: &[u8], n: u32) -> bool
     show_text(&line[..end])
 }
 
-// The digits of bytes, of which there are at most as many as one write shows; `part_end` gives no more.
+// Writes the digits of bytes. Precondition: they are at most as many as one write shows; `part_end` gives no more.
 fn show_part(part: &[u8]) -> bool
     requires { ⌜ length (now part) ≤ 32768 ⌝ }
 {
@@ -56,7 +56,7 @@ fn show_part(part: &[u8]) -> bool
     show_text(&digits[..end])
 }
 
-// The end of the part that begins at a position. `show_digits` gives a position within the bytes.
+// Finds the end of the part that begins at a position. Precondition: the position is within the bytes; `show_digits` has tested it.
 fn part_end(at: usize, count: usize) -> usize
     requires { ⌜ at < count ⌝ }
     ensures { λ r. ⌜ (at < r) × (r ≤ count) × (r ≤ at + 32768) ⌝ }
@@ -67,7 +67,7 @@ fn part_end(at: usize, count: usize) -> usize
     at + PART
 }
 
-// The digits of bytes, part by part.
+// Writes the digits of bytes, part by part.
 fn show_digits(bytes: &[u8]) -> bool {
     let mut at = 0;
     while at < bytes.len() {
@@ -80,7 +80,7 @@ fn show_digits(bytes: &[u8]) -> bool {
     true
 }
 
-// A name and bytes as `HEX`: their digits, or `-`.
+// Writes a name and bytes as `HEX`: their digits, or `-`.
 pub fn show_bytes(name: &[u8], bytes: &[u8]) -> bool {
     if !show_text(name) {
         return false;

@@ -18,3 +18,7 @@ lineSoFar g buffer = cond (g .«is_too_long» || ltb (length buffer) (g .count))
 unfoldable pub withPart : ℕ → Option (List ℕ) → List ℕ → Option (List ℕ)
 withPart room none part = none
 withPart room (some line) part = cond (ltb room (length line + length part)) none (some (line ++ part))
+
+-- what is gathered in a buffer, with a part more: the buffer is the room
+abbrev pub gatheredWith : Gathered → List ℕ → List ℕ → Option (List ℕ)
+gatheredWith g buffer part = withPart (length buffer) (lineSoFar g buffer) part

@@ -1,7 +1,6 @@
 // Lines gathered from the input, which comes in parts.
 ghost use mathlib.Core.Path.{_≡_};
-ghost use lib.ListN.{length};
-ghost use Rattle.script.specs.Gathered.{nothingGathered, lineSoFar, withPart};
+ghost use Rattle.script.specs.Gathered.{nothingGathered, lineSoFar, gatheredWith};
 use text::write::put_bytes;
 
 // How many bytes of the line that is being gathered stand in its buffer, and whether it is too long for that.
@@ -19,9 +18,9 @@ pub fn nothing_gathered() -> Gathered
     }
 }
 
-// A part of the input behind what is gathered, where there is room.
+// Puts a part of the input behind what is gathered, where there is room.
 pub fn gather(line: &mut [u8], gathered: Gathered, part: &[u8]) -> Gathered
-    ensures { λ r. ⌜ lineSoFar r (now (line .exit)) ≡ withPart (length (now (line .entry))) (lineSoFar gathered (now (line .entry))) (now (part .entry)) ⌝ }
+    ensures { λ r. ⌜ lineSoFar r (now (line .exit)) ≡ gatheredWith gathered (now (line .entry)) (now (part .entry)) ⌝ }
 {
     let count = gathered.count;
     if gathered.is_too_long {

@@ -43,7 +43,7 @@ pub enum ScriptLine {
     Unknown,
 }
 
-// The words behind `load`.
+// Reads the words behind `load`.
 fn read_load_line(s: &[u8], cursor: Cursor) -> ScriptLine
     ensures { λ r. ⌜ r ≡ loadLine (now (s .entry)) (cursor .at) ⌝ }
 {
@@ -63,7 +63,7 @@ fn read_load_line(s: &[u8], cursor: Cursor) -> ScriptLine
     }
 }
 
-// The words behind `data`.
+// Reads the words behind `data`.
 fn read_data_line(s: &[u8], cursor: Cursor) -> ScriptLine
     ensures { λ r. ⌜ r ≡ dataLine (now (s .entry)) (cursor .at) ⌝ }
 {
@@ -83,7 +83,7 @@ fn read_data_line(s: &[u8], cursor: Cursor) -> ScriptLine
     }
 }
 
-// The words behind `poke`.
+// Reads the words behind `poke`.
 fn read_poke_line(s: &[u8], cursor: Cursor) -> ScriptLine
     ensures { λ r. ⌜ r ≡ pokeLine (now (s .entry)) (cursor .at) ⌝ }
 {
@@ -99,7 +99,8 @@ fn read_poke_line(s: &[u8], cursor: Cursor) -> ScriptLine
     }
 }
 
-// A line of one number, or of fixed words, with its first word and the cursor behind that. `script_line_at` has compared the position.
+// Reads a line of one number, or of fixed words, with its first word and the cursor behind that. Precondition: the line begins within the
+// text; `command_line` requires it.
 fn short_line(s: &[u8], from: usize, word: &[u8], next: Cursor) -> ScriptLine
     requires { ⌜ from ≤ length (now s) ⌝ }
     ensures { λ r. ⌜ r ≡ shortLine (now (s .entry)) from (now (word .entry)) (next .at) ⌝ }
@@ -110,7 +111,8 @@ fn short_line(s: &[u8], from: usize, word: &[u8], next: Cursor) -> ScriptLine
     transfer_line(word, n)
 }
 
-// A line that is no remark, with its first word and the cursor behind that. `script_line_at` has compared the position.
+// Reads a line that is no remark, with its first word and the cursor behind that. Precondition: the line begins within the text;
+// `script_line_at` has tested it.
 fn command_line(s: &[u8], from: usize, word: &[u8], next: Cursor) -> ScriptLine
     requires { ⌜ from ≤ length (now s) ⌝ }
     ensures { λ r. ⌜ r ≡ commandLine (now (s .entry)) from (now (word .entry)) (next .at) ⌝ }
@@ -130,7 +132,7 @@ fn command_line(s: &[u8], from: usize, word: &[u8], next: Cursor) -> ScriptLine
     short_line(s, from, word, next)
 }
 
-// The line at a cursor, up to the end of the text.
+// Reads the line at a cursor, up to the end of the text.
 pub fn script_line_at(s: &[u8], cursor: Cursor) -> ScriptLine
     ensures { λ r. ⌜ r ≡ scriptLineAt (now (s .entry)) (cursor .at) ⌝ }
 {

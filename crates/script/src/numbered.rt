@@ -8,7 +8,7 @@ use crate::line::ScriptLine;
 use request::Request;
 use text::word::is_word;
 
-// A line whose number is within its room.
+// Gives a line whose number is within its room.
 fn line_within(n: u32, most: u32, line: ScriptLine) -> ScriptLine
     ensures { λ r. ⌜ r ≡ within n most line ⌝ }
 {
@@ -18,7 +18,7 @@ fn line_within(n: u32, most: u32, line: ScriptLine) -> ScriptLine
     line
 }
 
-// The reports into a room.
+// Reads the reports into a room.
 fn room_line(word: &[u8], n: u32) -> ScriptLine
     ensures { λ r. ⌜ r ≡ roomLine (now (word .entry)) n ⌝ }
 {
@@ -37,7 +37,7 @@ fn room_line(word: &[u8], n: u32) -> ScriptLine
     ScriptLine::Unknown
 }
 
-// The calls on a package in processing, or one of the lines above.
+// Reads the calls on a package in processing, or one of the lines above.
 fn processing_line(word: &[u8], n: u32) -> ScriptLine
     ensures { λ r. ⌜ r ≡ processingLine (now (word .entry)) n ⌝ }
 {
@@ -53,7 +53,7 @@ fn processing_line(word: &[u8], n: u32) -> ScriptLine
     room_line(word, n)
 }
 
-// Payload and the call beside it, or one of the lines above.
+// Reads Payload and `payload_check`, or one of the lines above.
 fn payload_line(word: &[u8], n: u32) -> ScriptLine
     ensures { λ r. ⌜ r ≡ payloadLine (now (word .entry)) n ⌝ }
 {
@@ -66,7 +66,7 @@ fn payload_line(word: &[u8], n: u32) -> ScriptLine
     processing_line(word, n)
 }
 
-// The transfer calls but TransferData, or one of the lines above.
+// Reads the transfer calls but TransferData, or one of the lines above.
 pub fn transfer_line(word: &[u8], n: u32) -> ScriptLine
     ensures { λ r. ⌜ r ≡ transferLine (now (word .entry)) n ⌝ }
 {

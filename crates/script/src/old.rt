@@ -10,7 +10,7 @@ use text::cursor::Cursor;
 use text::number::Number;
 use text::word::is_word;
 
-// The status and the calls without an id.
+// Reads the status and the calls without an id.
 fn old_fixed_line(s: &[u8]) -> ScriptLine
     ensures { λ r. ⌜ r ≡ oldFixedLine (now (s .entry)) ⌝ }
 {
@@ -29,7 +29,7 @@ fn old_fixed_line(s: &[u8]) -> ScriptLine
     ScriptLine::Unknown
 }
 
-// The id behind `old cancel`.
+// Reads the id behind `old cancel`.
 fn old_cancel_line(s: &[u8], cursor: Cursor) -> ScriptLine
     ensures { λ r. ⌜ r ≡ oldCancelLine (now (s .entry)) (cursor .at) ⌝ }
 {
@@ -39,7 +39,7 @@ fn old_cancel_line(s: &[u8], cursor: Cursor) -> ScriptLine
     ScriptLine::Old(OldCall::Cancel(id))
 }
 
-// The words behind `old`.
+// Reads the words behind `old`.
 pub fn old_line(s: &[u8], cursor: Cursor) -> ScriptLine
     ensures { λ r. ⌜ r ≡ oldLine (now (s .entry)) (cursor .at) ⌝ }
 {

@@ -17,7 +17,7 @@ pub enum BlockRead {
     IllFormed,
 }
 
-// A word of a form at a place.
+// Gives the place of a word that has a form.
 fn block_at(form: Form, place: Place) -> BlockRead
     ensures { λ r. ⌜ r ≡ blockAt form place ⌝ }
 {
@@ -29,7 +29,7 @@ fn block_at(form: Form, place: Place) -> BlockRead
     }
 }
 
-// The place of the word at a cursor, which is `BYTES` and the last of the line.
+// Finds the place of the word at a cursor, which is `BYTES` and the last of the line.
 pub fn last_block(s: &[u8], cursor: Cursor) -> BlockRead
     ensures { λ r. ⌜ r ≡ lastBlock (now (s .entry)) (cursor .at) ⌝ }
 {
@@ -51,7 +51,7 @@ pub fn last_block(s: &[u8], cursor: Cursor) -> BlockRead
     )
 }
 
-// The bytes of a line at a place; none where the place is not within it.
+// Gives the bytes of a line at a place; none where the place is not within it.
 pub fn part_at(s: &[u8], place: Place) -> &[u8]
     ensures { λ r. ⌜ now r ≡ partAt (now (s .entry)) place ⌝ }
 {

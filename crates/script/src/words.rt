@@ -8,7 +8,8 @@ use text::cursor::Cursor;
 use text::number::Number;
 use text::number::whole_number;
 
-// Where the word at a position ends: the next space or the end of the line. Its callers have compared the position with the line.
+// Finds where the word at a position ends: the next space or the end of the line. Precondition: the position is within the line or at its
+// end; its callers have tested it.
 pub fn word_end(s: &[u8], from: usize) -> usize
     requires { ⌜ from ≤ length (now s) ⌝ }
     ensures end { λ r. ⌜ r ≡ from + length (word (drop from (now (s .entry)))) ⌝ }
@@ -24,7 +25,7 @@ pub fn word_end(s: &[u8], from: usize) -> usize
     i
 }
 
-// The number that the word at a cursor is, and the cursor behind the word and the byte that ends it.
+// Reads the number that the word at a cursor is; gives the cursor behind the word and the byte that ends it too.
 pub fn number_word(s: &[u8], cursor: Cursor, most: u32) -> Number
     ensures { λ r. ⌜ r ≡ numberWord (now (s .entry)) (cursor .at) most ⌝ }
 {
@@ -39,7 +40,7 @@ pub fn number_word(s: &[u8], cursor: Cursor, most: u32) -> Number
     Number::Value(n, Cursor { at: end + 1 })
 }
 
-// The same of the last word of the line.
+// Does the same for the last word of the line.
 pub fn last_number(s: &[u8], cursor: Cursor, most: u32) -> Number
     ensures { λ r. ⌜ r ≡ lastNumber (now (s .entry)) (cursor .at) most ⌝ }
 {

@@ -8,7 +8,7 @@ use crate::named::put_line;
 use crate::named::put_named;
 use state::answer::Answer;
 
-// A line at the start of a buffer. The program lends one with room for the longest.
+// Puts the line of an answer at the start of a buffer. Precondition: the buffer has room for the longest; `replay` lends such a buffer.
 pub fn put_answer(buf: &mut [u8], answer: Answer) -> usize
     requires { ⌜ answerMost ≤ length (now buf) ⌝ }
     ensures line { λ r. ⌜ Put (now (buf .entry)) 0 (answerText answer) r (now (buf .exit)) ⌝ }

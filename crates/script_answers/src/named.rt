@@ -8,7 +8,7 @@ ghost use Rattle.script_answers.specs.Answers.{namedLine, endedNumber, r
 use text::write::put_bytes;
 use text::write::put_number;
 
-// A line at the start of a buffer. Its callers lend a buffer that is longer.
+// Puts a line at the start of a buffer. Precondition: it fits; its callers have a buffer with room for the longest answer.
 pub fn put_line(buf: &mut [u8], text: &[u8]) -> usize
     requires { ⌜ length (now text) ≤ length (now buf) ⌝ }
     ensures line { λ r. ⌜ Put (now (buf .entry)) 0 (now (text .entry)) r (now (buf .exit)) ⌝ }
@@ -17,7 +17,7 @@ pub fn put_line(buf: &mut [u8], text: &[u8]) -> usize
     put_bytes(buf, 0, text)
 }
 
-// A number and the byte that ends it. Its callers have room for every number.
+// Puts a number and the byte that ends it. Precondition: there is room for every number; its callers require such room.
 fn put_ended(buf: &mut [u8], at: usize, n: u32, end: u8) -> usize
     requires { ⌜ at + (numberDigitsMost + 1) ≤ length (now buf) ⌝ }
     ensures number { λ r. ⌜ Put (now (buf .entry)) at (endedNumber n end) r (now (buf .exit)) ⌝ }
@@ -27,7 +27,7 @@ fn put_ended(buf: &mut [u8], at: usize, n: u32, end: u8) -> usize
     put_byte(buf, behind, end)
 }
 
-// One byte. `put_ended` has room for it.
+// Puts one byte. Precondition: there is room; `put_ended` has it.
 fn put_byte(buf: &mut [u8], at: usize, b: u8) -> usize
     requires { ⌜ at < length (now buf) ⌝ }
     ensures { λ r. ⌜ Put (now (buf .entry)) at (b ∷ []) r (now (buf .exit)) ⌝ }
@@ -36,7 +36,7 @@ fn put_byte(buf: &mut [u8], at: usize, b: u8) -> usize
     at + 1
 }
 
-// A name, a number and LF. Its callers lend a buffer with room for every number.
+// Puts a name, a number and LF. Precondition: there is room for the name and every number; its callers have such buffers.
 pub fn put_named(buf: &mut [u8], at: usize, name: &[u8], n: u32) -> usize
     requires { ⌜ at + length (now name) + (numberDigitsMost + 1) ≤ length (now buf) ⌝ }
     ensures line { λ r. ⌜ Put (now (buf .entry)) at (namedLine (now (name .entry)) n) r (now (buf .exit)) ⌝ }
@@ -46,7 +46,7 @@ pub fn put_named(buf: &mut [u8], at: usize, name: &[u8], n: u32) -> usize
     put_ended(buf, behind_name, n, b'\n')
 }
 
-// A record of Packages at the start of a buffer. The program lends one with room for every record.
+// Puts a record of Packages at the start of a buffer. Precondition: the buffer has room for every record; `replay` lends such a buffer.
 pub fn put_record(buf: &mut [u8], id: u32, size: u32, received: u32, state: u32) -> usize
     requires { ⌜ recordMost ≤ length (now buf) ⌝ }
     ensures line { λ r. ⌜ Put (now (buf .entry)) 0 (recordLine id size received state) r (now (buf .exit)) ⌝ }
@@ -58,7 +58,8 @@ pub fn put_record(buf: &mut [u8], id: u32, size: u32, received: u32, state: u32)
     put_ended(buf, behind_received, state, b'\n')
 }
 
-// An entry of the start waves at the start of a buffer. The program lends one with room for every entry.
+// Puts an entry of the start waves at the start of a buffer. Precondition: the buffer has room for every entry; `replay` lends such a
+// buffer.
 pub fn put_wave(buf: &mut [u8], part: u32, wave: u32) -> usize
     requires { ⌜ waveMost ≤ length (now buf) ⌝ }
     ensures line { λ r. ⌜ Put (now (buf .entry)) 0 (waveLine part wave) r (now (buf .exit)) ⌝ }

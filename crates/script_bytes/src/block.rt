@@ -9,7 +9,7 @@ use crate::form::Form;
 use crate::form::form_of;
 use crate::hex::put_digits_bytes;
 
-// How many bytes a word stands for.
+// Counts the bytes that a word stands for.
 pub fn block_length(word: &[u8]) -> usize
     ensures { λ r. ⌜ r ≡ length (blockBytes (now (word .entry))) ⌝ }
 {
@@ -22,7 +22,7 @@ pub fn block_length(word: &[u8]) -> usize
     }
 }
 
-// A byte of typed text.
+// Gives the byte that a byte of typed text stands for.
 fn typed_byte(b: u8) -> u8
     ensures { λ r. ⌜ r ≡ typedByte b ⌝ }
 {
@@ -32,7 +32,7 @@ fn typed_byte(b: u8) -> u8
     b
 }
 
-// Typed text. `put_block_bytes`'s caller has compared the length.
+// Puts the bytes of typed text. Precondition: they fit the buffer; `put_block_bytes` requires it.
 fn put_typed(buf: &mut [u8], at: usize, text: &[u8]) -> usize
     requires { ⌜ at + length (map typedByte (now text)) ≤ length (now buf) ⌝ }
     ensures { λ r. ⌜ Put (now (buf .entry)) at (map typedByte (now (text .entry))) r (now (buf .exit)) ⌝ }
@@ -45,7 +45,8 @@ fn put_typed(buf: &mut [u8], at: usize, text: &[u8]) -> usize
     at + i
 }
 
-// The bytes that a word stands for. The program compares `block_length` with the room of its buffer or of the store.
+// Puts the bytes that a word stands for. Precondition: they fit the buffer; `replay` compares `block_length` with the room of its buffer
+// or of the store.
 pub fn put_block_bytes(buf: &mut [u8], at: usize, word: &[u8]) -> usize
     requires { ⌜ at + length (blockBytes (now word)) ≤ length (now buf) ⌝ }
     ensures { λ r. ⌜ Put (now (buf .entry)) at (blockBytes (now (word .entry))) r (now (buf .exit)) ⌝ }

@@ -14,7 +14,7 @@ pub enum Form {
     IllFormed,
 }
 
-// The form of a word.
+// Finds the form of a word.
 pub fn form_of(word: &[u8]) -> Form
     ensures { λ r. ⌜ r ≡ formOf (now (word .entry)) ⌝ }
 {

@@ -6,7 +6,7 @@ ghost use lib.ListN.{length};
 ghost use Rattle.text.specs.Put.{Put};
 ghost use Rattle.script_bytes.specs.Hex.{digitValue, digitByte, isDigits, digitsBytes, byteDigits, bytesDigits};
 
-// The value of a digit, or 16 for any other byte.
+// Gives the value of a digit, or 16 for any other byte.
 fn digit_value(b: u8) -> u8
     ensures { λ r. ⌜ r ≡ digitValue b ⌝ }
 {
@@ -25,7 +25,7 @@ fn digit_value(b: u8) -> u8
     16
 }
 
-// Whether a word is an even number of digits.
+// Says whether a word is an even number of digits.
 pub fn is_digits(word: &[u8]) -> bool
     ensures { λ r. ⌜ r ≡ isDigits (now (word .entry)) ⌝ }
 {
@@ -42,7 +42,7 @@ pub fn is_digits(word: &[u8]) -> bool
     true
 }
 
-// The byte of two digits. `put_digits_bytes` has digits alone.
+// Gives the byte of two digits. Precondition: both are digits; `put_digits_bytes` requires digits alone.
 fn digits_byte(high: u8, low: u8) -> u8
     requires { ⌜ (digitValue high < 16) × (digitValue low < 16) ⌝ }
     ensures { λ r. ⌜ r ≡ 16 * digitValue high + digitValue low ⌝ }
@@ -50,7 +50,8 @@ fn digits_byte(high: u8, low: u8) -> u8
     16 * digit_value(high) + digit_value(low)
 }
 
-// The bytes that digits stand for. `put_block_bytes` hands over such a word, and its caller has compared the length.
+// Puts the bytes that digits stand for. Precondition: the word is an even number of digits, which `put_block_bytes` has tested, and the
+// bytes fit the buffer, which it requires.
 pub fn put_digits_bytes(buf: &mut [u8], at: usize, word: &[u8]) -> usize
     requires { ⌜ (isDigits (now word) ≡ true) × (at + length (digitsBytes (now word)) ≤ length (now buf)) ⌝ }
     ensures { λ r. ⌜ Put (now (buf .entry)) at (digitsBytes (now (word .entry))) r (now (buf .exit)) ⌝ }
@@ -64,7 +65,7 @@ pub fn put_digits_bytes(buf: &mut [u8], at: usize, word: &[u8]) -> usize
     at + i
 }
 
-// A value below 16 as a digit. `put_byte_digits` gives such values.
+// Gives the digit of a value. Precondition: the value is below 16; `put_byte_digits` gives such values.
 fn digit_byte(value: u8) -> u8
     requires { ⌜ value < 16 ⌝ }
     ensures { λ r. ⌜ r ≡ digitByte value ⌝ }
@@ -75,7 +76,7 @@ fn digit_byte(value: u8) -> u8
     87 + value
 }
 
-// The two digits of a byte.
+// Puts the two digits of a byte. Precondition: they fit the buffer; `put_bytes_digits` requires it.
 fn put_byte_digits(buf: &mut [u8], at: usize, b: u8) -> usize
     requires { ⌜ at + length (byteDigits b) ≤ length (now buf) ⌝ }
     ensures { λ r. ⌜ Put (now (buf .entry)) at (byteDigits b) r (now (buf .exit)) ⌝ }
@@ -85,7 +86,7 @@ fn put_byte_digits(buf: &mut [u8], at: usize, b: u8) -> usize
     at + 2
 }
 
-// The digits of bytes. A long answer is put in parts, each as long as its caller's buffer has room for.
+// Puts the digits of bytes. Precondition: they fit the buffer; `replay` puts a long answer in parts that fit.
 pub fn put_bytes_digits(buf: &mut [u8], at: usize, part: &[u8]) -> usize
     requires { ⌜ at + length (bytesDigits (now part)) ≤ length (now buf) ⌝ }
     ensures { λ r. ⌜ Put (now (buf .entry)) at (bytesDigits (now (part .entry))) r (now (buf .exit)) ⌝ }

@@ -36,6 +36,10 @@ calling call k bytes =
     let o = exactStep (k .state) (take n bytes) call in
     lineOutcome (answeredWith (o .answered) n) (o .store ++ drop n bytes)
 
+-- "TransferData" with the bytes that a word stands for
+abbrev pub callingData : ℕ → ℕ → List ℕ → Kept → Store → LineOutcome
+callingData id counter word k bytes = calling (transferData id counter (blockBytes word)) k bytes
+
 -- an old call on the bytes that are lent, which is answered "`old N`, never `refused`"
 unfoldable pub callingOld : OldCall → Kept → Store → LineOutcome
 callingOld call k bytes =
@@ -74,7 +78,7 @@ poking at text k bytes =
 -- `store` and a remark change nothing
 unfoldable pub lineGives : List ℕ → ScriptLine → Kept → Store → LineOutcome
 lineGives text (line.Load first size list) k bytes = loading first size (blockBytes (partAt text list)) k bytes
-lineGives text (line.Data id counter block) k bytes = calling (transferData id counter (blockBytes (partAt text block))) k bytes
+lineGives text (line.Data id counter block) k bytes = callingData id counter (partAt text block) k bytes
 lineGives text (line.Call request) k bytes = calling (callOf request []) k bytes
 lineGives text (line.Old call) k bytes = callingOld call k bytes
 lineGives text line.OldStatus k bytes = lineOutcome (nothingChanged line-answer.Shown k) bytes

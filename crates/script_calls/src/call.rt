@@ -2,11 +2,9 @@
 ghost use mathlib.Core.Path.{_≡_};
 ghost use Prim.Native.Nat.{_≤_};
 ghost use lib.ListN.{length};
-ghost use Rattle.model.specs.Calls.{transferData};
 ghost use Rattle.request.specs.Call.{callOf};
-ghost use Rattle.script_bytes.specs.Block.{blockBytes};
 ghost use Rattle.script_calls.specs.Kept.{lineOutcome};
-ghost use Rattle.script_calls.specs.Line.{calling};
+ghost use Rattle.script_calls.specs.Line.{calling, callingData};
 use crate::kept::Kept;
 use crate::kept::Played;
 use crate::kept::answered_with;
@@ -15,7 +13,7 @@ use manager::call;
 use request::Request;
 use script_bytes::block::put_block_bytes;
 
-// A call of the twelve on the bytes that are lent, with the block that is lent to it.
+// Makes a call of the twelve on the bytes that are lent, with the block that is lent to it.
 pub fn play_call(kept: Kept, bytes: &mut [u8], request: Request, block: &[u8]) -> Played
     ensures { λ r. ⌜ lineOutcome r (now (bytes .exit)) ≡ calling (callOf request (now (block .entry))) kept (now (bytes .entry)) ⌝ }
 {
@@ -26,7 +24,8 @@ pub fn play_call(kept: Kept, bytes: &mut [u8], request: Request, block: &[u8]) -
     answered_with(made, store_length)
 }
 
-// TransferData with the bytes that a word stands for. `play` has a buffer that is as long as the line.
+// Makes TransferData with the bytes that a word stands for. Precondition: the buffer is as long as the word; `play` has one as long as the
+// line.
 pub fn play_data(
     kept: Kept,
     bytes: &mut [u8],
@@ -36,7 +35,7 @@ pub fn play_data(
     buffer: &mut [u8],
 ) -> Played
     requires { ⌜ length (now word) ≤ length (now buffer) ⌝ }
-    ensures { λ r. ⌜ lineOutcome r (now (bytes .exit)) ≡ calling (transferData id counter (blockBytes (now (word .entry)))) kept (now (bytes .entry)) ⌝ }
+    ensures { λ r. ⌜ lineOutcome r (now (bytes .exit)) ≡ callingData id counter (now (word .entry)) kept (now (bytes .entry)) ⌝ }
 {
     let end = put_block_bytes(buffer, 0, word);
     play_call(

@@ -28,7 +28,7 @@ pub struct Played {
     pub kept: Kept,
 }
 
-// A store of no bytes, and a state that is not sound: its next id is 0.
+// Gives what is kept before the first Load: a store of no bytes, and a state that is not sound, since its next id is 0.
 pub fn nothing_loaded() -> Kept
     ensures { λ r. ⌜ NothingLoaded r ⌝ }
 {
@@ -39,7 +39,7 @@ pub fn nothing_loaded() -> Kept
     }
 }
 
-// The answer of a call and its state, with so many bytes lent.
+// Gives the answer of a call and its state, with so many bytes lent.
 pub fn answered_with(made: Answered, store_length: usize) -> Played
     ensures { λ r. ⌜ r ≡ answeredWith made «store_length» ⌝ }
 {
@@ -55,7 +55,7 @@ pub fn answered_with(made: Answered, store_length: usize) -> Played
     }
 }
 
-// The same of an old call.
+// Gives the same of an old call.
 pub fn old_answered_with(made: OldAnswered, store_length: usize) -> Played
     ensures { λ r. ⌜ r ≡ oldAnsweredWith (made .answer) (made .state) «store_length» ⌝ }
 {
@@ -71,7 +71,7 @@ pub fn old_answered_with(made: OldAnswered, store_length: usize) -> Played
     }
 }
 
-// An answer of a line that changes nothing of what is kept.
+// Gives the answer of a line that changes nothing of what is kept.
 pub fn nothing_changed(answer: LineAnswer, kept: Kept) -> Played
     ensures { λ r. ⌜ r ≡ nothingChanged answer kept ⌝ }
 {

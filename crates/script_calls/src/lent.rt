@@ -2,7 +2,7 @@
 ghost use mathlib.Core.Path.{_≡_};
 ghost use Rattle.script_calls.specs.Line.{lentCount};
 
-// How many bytes are lent: as many as are asked for, and at most all.
+// Says how many bytes are lent: as many as are asked for, and at most all.
 pub fn lent(asked: usize, all: usize) -> usize
     ensures { λ r. ⌜ r ≡ lentCount asked all ⌝ }
 {

@@ -14,7 +14,7 @@ use script_bytes::block::put_block_bytes;
 use state::answer::Answer;
 use state::answer::is_refusal;
 
-// How many bytes are lent after Load: as many as the line says, or as before.
+// Says how many bytes are lent after Load: as many as the line says, or as before.
 fn length_after(answer: Answer, before: usize, size: usize) -> usize
     ensures { λ r. ⌜ r ≡ lengthAfter answer before size ⌝ }
 {
@@ -24,7 +24,7 @@ fn length_after(answer: Answer, before: usize, size: usize) -> usize
     size
 }
 
-// Load with a list on the first of the program's bytes, so many as the line says.
+// Makes Load with a list on the first of the program's bytes, so many as the line says.
 fn play_list(kept: Kept, bytes: &mut [u8], first: u32, size: u32, list: &[u8]) -> Played
     ensures { λ r. ⌜ lineOutcome r (now (bytes .exit)) ≡ loading first size (now (list .entry)) kept (now (bytes .entry)) ⌝ }
 {
@@ -39,7 +39,7 @@ fn play_list(kept: Kept, bytes: &mut [u8], first: u32, size: u32, list: &[u8]) -
     answered_with(made, length_after(answer, before, count))
 }
 
-// The same with the list that a word stands for. `play` has a buffer that is as long as the line.
+// Does the same with the list that a word stands for. Precondition: the buffer is as long as the word; `play` has one as long as the line.
 pub fn play_load(
     kept: Kept,
     bytes: &mut [u8],

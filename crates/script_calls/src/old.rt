@@ -9,7 +9,7 @@ use crate::lent::lent;
 use four_state::call::OldCall;
 use four_state::call::old_call;
 
-// An old call on the bytes that are lent.
+// Makes an old call on the bytes that are lent.
 pub fn play_old(kept: Kept, bytes: &[u8], call: OldCall) -> Played
     ensures { λ r. ⌜ lineOutcome r (now (bytes .entry)) ≡ callingOld call kept (now (bytes .entry)) ⌝ }
 {

@@ -12,7 +12,7 @@ use script_bytes::block::block_length;
 use script_bytes::block::put_block_bytes;
 use state::answer::Answer;
 
-// The bytes that a word stands for put into the store, where they fit whole; whether they do.
+// Puts the bytes that a word stands for into the store, where they fit whole; says whether they do.
 fn poke(store: &mut [u8], at: usize, word: &[u8]) -> bool
     ensures { λ r. ⌜ Poked at (blockBytes (now (word .entry))) (now (store .entry)) r (now (store .exit)) ⌝ }
 {
@@ -35,7 +35,7 @@ fn poke_answer(is_put: bool) -> LineAnswer
     LineAnswer::Unknown
 }
 
-// Another writer puts the bytes that a word stands for into the store that is lent.
+// Puts the bytes that a word stands for into the store that is lent, as another writer would.
 pub fn play_poke(kept: Kept, bytes: &mut [u8], at: u32, word: &[u8]) -> Played
     ensures { λ r. ⌜ lineOutcome r (now (bytes .exit)) ≡ poking at (blockBytes (now (word .entry))) kept (now (bytes .entry)) ⌝ }
 {

@@ -46,7 +46,7 @@ pokeLine s at =
 
 -- ---- lines of a word and one number
 
--- "past one of these rooms: `unknown`"
+-- "past one of these rooms": `unknown`
 unfoldable pub within : ℕ → ℕ → ScriptLine → ScriptLine
 within n most l = cond (ltb most n) line.Unknown l
 

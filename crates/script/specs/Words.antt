@@ -19,7 +19,7 @@ unfoldable pub word : List ℕ → List ℕ
 word [] = []
 word (b ∷ l) = cond (eqb b space) [] (b ∷ word l)
 
--- the word at a position of a line. Behind the last word it is no bytes, which no line admits: "a word of no bytes [is] `unknown`"
+-- the word at a position of a line. Behind the last word it is no bytes, which no line admits: "an empty word" is `unknown`
 abbrev pub wordAt : List ℕ → ℕ → List ℕ
 wordAt s at = word (drop at s)
 
@@ -27,7 +27,7 @@ wordAt s at = word (drop at s)
 abbrev pub behindWord : List ℕ → ℕ → ℕ
 behindWord s at = at + length (wordAt s at) + 1
 
--- the number that the word at a position is, at most as large as `most`: "A number past its range is `unknown`"
+-- the number that the word at a position is, at most as large as `most`: "a number past its range" is `unknown`
 unfoldable pub numberWord : List ℕ → ℕ → ℕ → Number
 numberWord s at most = andThen IllFormed (wholeNumber most (wordAt s at)) λ n end. Value n (cursor (behindWord s at))
 

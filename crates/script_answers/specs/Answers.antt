@@ -43,7 +43,7 @@ waveMost = 22
 abbrev pub answerMost : ℕ
 answerMost = 20
 
--- "refused .. `refused R`", "TransferStart gave an id: `id ID`", "any other of the twelve, and Load: document 01's name"
+-- "refused .. `refused R`", "TransferStart gave an id": "`id ID`", "any other of the twelve, and Load": "document 01's name"
 abbrev pub answerText : Answer → List ℕ
 answerText (Id id) = namedLine (bytes "id ") id
 answerText Done = nameLine (bytes "Done")

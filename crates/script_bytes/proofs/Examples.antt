@@ -9,7 +9,7 @@ use Rattle.script_bytes.specs.Hex.{answerDigits}
 use Rattle.script_bytes.specs.Block.{formOf, blockBytes}
 use Rattle.script_bytes.specs.Open.{computing}
 
--- "Upper-case hex digits .. and a word of no bytes are `unknown`."
+-- "upper-case hex digits, an empty word" have no form
 forms-computed : AllHold (λ (w : String). formOf (bytes w))
     ("00" gives Digits
     ∷ "0aff" gives Digits

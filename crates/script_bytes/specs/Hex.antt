@@ -7,7 +7,7 @@ use lib.Dec.{ltb, leb, eqb}
 use Rattle.base.specs.Quoted.{bytes}
 use Rattle.text.specs.Meaning.{eachByte}
 
--- the value of a digit of `0-9a-f`, and 16 of any other byte: "Upper-case hex digits [are] `unknown`"
+-- the value of a digit of `0-9a-f`, and 16 of any other byte: "upper-case hex digits" are none
 unfoldable pub digitValue : ℕ → ℕ
 digitValue b =
     cond (ltb b 48) 16

@@ -60,7 +60,7 @@ refused-before-load k bytes call nothing =
     ∙ refused-call (k .state) bytes call (nothing .unsound)
     ∙ ap (λ (q : Kept). lineOutcome (nothingChanged (line-answer.Answer (Refused 1)) q) bytes) (sym none-lent)
 
--- ---- "Before the first Load `old 255` for status, `old 1` for cancel, `old 2` for the others."
+-- ---- "Before the first Load the old lines are answered `old 255` for status, `old 1` for cancel, `old 2` for the others."
 
 old-unsound : (s : State) (bytes : Store) (call : OldCall) → soundFor (viewState s) 0 ≡ false
     → callingOld call (keeps s 0) bytes ≡ lineOutcome (oldAnsweredWith (unsoundAnswer call) s 0) bytes

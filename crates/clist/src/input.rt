@@ -1,8 +1,9 @@
 // Standard input, read into a buffer.
 ghost use Prim.Native.Nat.{_-_, _≤_, _<_};
+ghost use mathlib.Core.Path.{_≡_};
 ghost use lib.ListN.{length, take};
 ghost use Rattle.text.specs.Put.{Put};
-ghost use Rattle.clist.specs.Input.{CountsRead};
+ghost use Rattle.clist.specs.Input.{CountsRead, PartCounts, partRead};
 use libc::STDIN_FILENO;
 use text::write::put_bytes;
 
@@ -10,6 +11,28 @@ use text::write::put_bytes;
 pub enum InputRead {
     Bytes(usize),
     Failed,
+}
+
+// What one read gave: so many bytes, the end of the input, or that it failed.
+pub enum PartRead {
+    Bytes(usize),
+    Ended,
+    Failed,
+}
+
+// Says what a read gave by the number that it answered.
+fn part_read(got: isize, part: &[u8]) -> PartRead
+    ensures answer { λ r. ⌜ r ≡ partRead got (length (now (part .entry))) ⌝ }
+    ensures inside { λ r. ⌜ PartCounts r (now (part .entry)) ⌝ }
+{
+    if got < 0 {
+        return PartRead::Failed;
+    }
+    let count = io::count(got, part);
+    if count == 0 {
+        return PartRead::Ended;
+    }
+    PartRead::Bytes(count)
 }
 
 // Puts a part of the input behind the bytes that were read before, as much as there is room for; gives how many bytes there are then.
@@ -33,14 +56,11 @@ pub fn read_parts(buf: &mut [u8], part: &mut [u8]) -> InputRead
     let mut done = 0;
     while done < buf.len() {
         let got = libc::read(STDIN_FILENO, part);
-        if got < 0 {
-            return InputRead::Failed;
+        match part_read(got, part) {
+            PartRead::Failed => return InputRead::Failed,
+            PartRead::Ended => return InputRead::Bytes(done),
+            PartRead::Bytes(count) => done = take_part(buf, done, &part[..count]),
         }
-        let count = io::count(got, part);
-        if count == 0 {
-            return InputRead::Bytes(done);
-        }
-        done = take_part(buf, done, &part[..count]);
     }
     InputRead::Bytes(done)
 }

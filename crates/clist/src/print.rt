@@ -40,8 +40,8 @@ fn put_answer(input: &[u8], buf: &mut [u8]) -> usize
 }
 
 // Puts what is printed of every input of which `count` bytes were read into a buffer: all, or as many as it has. It has more than a list
-// can have, so an input that does not fit it is refused whatever follows. Precondition: the buffers have that room, and the bytes stand in
-// the first; `main` lends such buffers, and `read_parts` counts the bytes.
+// can have, so an input that does not fit it is refused whatever follows. Precondition: the first buffer has more bytes than a list can
+// have and `count` of them, the second has room for the longest list; `main` lends such buffers, and `read_parts` gives the count.
 pub fn put_answer_to_read(read: &[u8], count: usize, buf: &mut [u8]) -> usize
     requires { ⌜ (readListMost < length (now read)) × Counts count (now read) × (writtenListMost ≤ length (now buf)) ⌝ }
     ensures answer { λ r. ⌜ AnswersAll (now (read .entry)) count (now (buf .entry)) r (now (buf .exit)) ⌝ }

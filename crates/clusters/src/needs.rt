@@ -1,6 +1,6 @@
 // Says whether a table meets needs. The table's columns are taken out once, and the needs are looked up in them. Precondition of each
 // function: the table, or the one that the columns are of, has at most 64 clusters and a cluster at most 4 needs; `needs_met` requires a
-// table within its limits, which a table that was read and the staged table of a sound state are.
+// table within its limits, which a table that was read and the staged table of a sound state are, and `examples` asks `meets` of a table of one cluster.
 use crate::cluster::Cluster;
 use crate::cluster::Need;
 use crate::columns::Columns;

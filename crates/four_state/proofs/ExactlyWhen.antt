@@ -115,7 +115,7 @@ module _ (s : State) (store : Store) where
       go none other = absurd (other refl)
       go (some n) other = (refl, refl)
 
-  -- A.6 behind an old Activate answered 0: the needs of its session are met, so while the session is that one a bad report in Activating is
+  -- A.6 after an old Activate answered 0: the needs of its session are met, so while the session is that one a bad report in Activating is
   -- answered PreActivationFailed
   pub bad-report-behind-activate : oldStep s store Activate .answer ≡ 0 → (later : State) (store′ : Store) → sound later store′ ≡ true
       → later .phase ≡ activating → later .session ≡ s .session

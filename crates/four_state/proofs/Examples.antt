@@ -189,7 +189,7 @@ mixed-counted : counted countsAs mixed
 unfolding counted countsAs
 mixed-counted = refl
 
--- A.6 changes nothing behind an old Activate that was begun: all needs are met in the staged table, whatever the beginning table lacks, so
+-- A.6 changes nothing after an old Activate that was begun: all needs are met in the staged table, whatever the beginning table lacks, so
 -- a bad report is PreActivationFailed
 abbrev begunThenBad : List MixedMade
 begunThenBad =

@@ -16,7 +16,7 @@ use Rattle.packages_report.specs.declared.records.Records.{Records}
 abbrev pub recordOf : Package → Record
 recordOf p = record { id = p .id; size = p .size; received = p .received; state = packageStateNumber (viewPackageState (p .state)) }
 
--- what stands in an unused place
+-- the value of an unused place
 abbrev pub clearedRecord : Record
 clearedRecord = record { id = 0; size = 0; received = 0; state = 0 }
 

@@ -4,7 +4,7 @@ use Prim.Native.Nat.{ℕ}
 use mathlib.Core.Path.{_≡_, refl, sym, ap, ap₂, _∙_}
 use mathlib.Core.List.{List}
 use mathlib.Core.Option.{Option, none, some}
-use lib.ListN.{length, take, drop}
+use lib.ListN.{length}
 use Rattle.base.specs.Refusals.{Refusal, firstRefusal, numberOrZero}
 use Rattle.base.proofs.Tests.{bool-cases, clash}
 use Rattle.base.proofs.RefusalNumbers.{zero-none}
@@ -16,7 +16,7 @@ use Rattle.manifest.proofs.Within.{readPackage-within, readPackage-viewed}
 use Rattle.model.specs.State as model
 use Rattle.model.specs.State.{Store}
 use Rattle.model.specs.Areas as areas
-use Rattle.model.specs.Areas.{declared, areaOf}
+use Rattle.model.specs.Areas.{areaOf}
 use Rattle.model.specs.Sound.{packagesMost}
 use Rattle.model.specs.Calls.{done, process}
 use Rattle.model.specs.Step as step
@@ -38,6 +38,7 @@ use Rattle.state.specs.Exact.{inState, withPackage, state}
 use Rattle.state.specs.Outcome.{outcome, answered, viewOutcome}
 use Rattle.soundness.proofs.KeptParts.{cleared-not-within}
 use Rattle.areas.specs.Changed.{packageAt, withChanged}
+use Rattle.areas.specs.Inside.{readAt}
 use Rattle.areas.proofs.FoundPackage.{count-fits, FoundAt}
 use Rattle.areas.proofs.ChangedPackage.{view-changed}
 use Rattle.process_package.specs.declared.checks.Checked.{Checked}
@@ -63,14 +64,14 @@ checked-number read (some number) = refl
 
 module _ (s : State) (store : Store) (id : ℕ) where
   -- what the area of the package at a place reads as
-  abbrev readAt : ℕ → PackageRead
-  readAt i = readPackage (take (packageAt (s .transfers) i .size) (drop (declared (take i (viewPackages (s .transfers)))) store))
+  abbrev read : ℕ → PackageRead
+  read i = readAt (s .transfers) i (packageAt (s .transfers) i) store
 
   -- c is what the checks of the package gave at the place i, where it was found
   module _ (i : ℕ) (found : FoundAt s store id i) (c : Checked)
-      (e : c ≡ checked (viewPackageState (packageAt (s .transfers) i .state)) (readAt i) (viewSession (s .session))) where
+      (e : c ≡ checked (viewPackageState (packageAt (s .transfers) i .state)) (read i) (viewSession (s .session))) where
     abbrev own : List Refusal
-    own = processRefusals (viewPackageState (packageAt (s .transfers) i .state)) (readAt i) (viewSession (s .session))
+    own = processRefusals (viewPackageState (packageAt (s .transfers) i .state)) (read i) (viewSession (s .session))
 
     -- its refusals are the model's
     process-own : firstRefusal (ownRefusals (viewState s) store (process id)) ≡ firstRefusal own
@@ -81,7 +82,7 @@ module _ (s : State) (store : Store) (id : ℕ) where
         ∙ rw (found-is id ps _ (found .known), area-at-start id ps _ store (found .known), found .start)
 
     number : c .number ≡ numberOrZero (firstRefusal own)
-    number = ap (λ (x : Checked). x .number) e ∙ checked-number (readAt i) (firstRefusal own)
+    number = ap (λ (x : Checked). x .number) e ∙ checked-number (read i) (firstRefusal own)
 
     pub checks-number : c .number ≡ numberOrZero (firstRefusal (ownRefusals (viewState s) store (process id)))
     checks-number = number ∙ ap numberOrZero (sym process-own)

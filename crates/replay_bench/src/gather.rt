@@ -16,7 +16,8 @@ use script::gathered::gather;
 use script::gathered::nothing_gathered;
 use script_calls::kept::Kept;
 
-// Answers a line that has ended. Precondition: the buffer is as long as that of the line; `play_standard_input` has such buffers. So below.
+// Answers a line that has ended. Precondition, here and below: the buffer is at least as long as that of the line; `play_standard_input`
+// lends such buffers.
 fn end_line(
     kept: Kept,
     bytes: &mut [u8],
@@ -66,8 +67,8 @@ fn answer_part(
     bench_after(next, nothing_gathered(), after.is_written)
 }
 
-// Takes a part of the input up to the next LF, or up to its end. Precondition: the part has a byte, as `behind_line` gives it, and the
-// program goes on, which `take_lines` has tested.
+// Takes a part of the input up to the next LF, or up to its end. Precondition: also, the part has a byte, as `behind_line` gives
+// it, and the program goes on, which `take_lines` has tested.
 fn take_part(
     bench: Bench,
     bytes: &mut [u8],

@@ -38,8 +38,8 @@ fn line_bytes() -> [u8; LINE_MOST]
     [0; LINE_MOST]
 }
 
-// Reads once and plays what came. Precondition: the buffer is as long as that of the line, as `play_standard_input` lends them, and no read
-// or write has failed and the input has not ended, which `read_all` has tested.
+// Reads once and plays what came. Precondition: the buffer is at least as long as that of the line, as `play_standard_input` lends them, and
+// the bench goes on, which `read_all` has tested.
 fn read_some(
     bench: Bench,
     bytes: &mut [u8],
@@ -65,7 +65,7 @@ fn read_some(
 }
 
 // Reads and plays until the program ends. A proved loop has to end, and nothing says that an input does: the turns count down from a number
-// that no run uses up. Precondition: the buffer is as long as that of the line; `play_standard_input` lends such buffers.
+// that no run uses up. Precondition: the buffer is at least as long as that of the line; `play_standard_input` lends such buffers.
 fn read_all(bytes: &mut [u8], line: &mut [u8], input: &mut [u8], buffer: &mut [u8])
     requires { ⌜ length (now line) ≤ length (now buffer) ⌝ }
 {

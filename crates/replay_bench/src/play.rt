@@ -79,8 +79,8 @@ fn answer_played(
     after_line(kept, is_written)
 }
 
-// Plays a line, which is given without its LF, and with it for a remark. Precondition: the buffer is as long as the line; `play_line`
-// requires it.
+// Plays a line, which is given without its LF, and with it for a remark. Precondition: the buffer is at least as long as the line;
+// `play_line` requires it.
 fn play_text(kept: Kept, bytes: &mut [u8], text: &[u8], line: &[u8], buffer: &mut [u8]) -> AfterLine
     requires { ⌜ length (now text) ≤ length (now buffer) ⌝ }
     ensures { λ r. ⌜ held (r .kept) (now (bytes .exit)) ≡ afterText (now (text .entry)) (held kept (now (bytes .entry))) ⌝ }
@@ -100,7 +100,7 @@ fn text_length(count: usize) -> usize
     count - 1
 }
 
-// Plays a line with its LF. Precondition: the buffer is as long as the line; `end_line` requires one as long as the line's buffer.
+// Plays a line with its LF. Precondition: the buffer is at least as long as the line; `end_line` requires one as long as the line's buffer.
 pub fn play_line(kept: Kept, bytes: &mut [u8], line: &[u8], buffer: &mut [u8]) -> AfterLine
     requires { ⌜ length (now line) ≤ length (now buffer) ⌝ }
     ensures { λ r. ⌜ held (r .kept) (now (bytes .exit)) ≡ afterLine (now (line .entry)) (held kept (now (bytes .entry))) ⌝ }

@@ -38,7 +38,8 @@ pub fn show_state(s: State, store: &[u8]) -> bool {
     show_text(&line[..end])
 }
 
-// Writes a name and a number. Precondition: the name has at most 20 bytes; each caller gives a literal that is shorter.
+// Writes a name and a number. Precondition: the name has at most 20 bytes; each caller gives a shorter literal, and `show_reply`
+// requires the same.
 pub fn show_number(name: &[u8], n: u32) -> bool
     requires { ⌜ length (now name) ≤ 20 ⌝ }
 {

@@ -34,7 +34,7 @@ fn report_line(s: &[u8]) -> ScriptLine
     show_line(s)
 }
 
-// Reads the calls that end a session, or one of the lines above.
+// Reads Revert, Activate, Rollback and Finish, or one of the lines above.
 pub fn session_line(s: &[u8]) -> ScriptLine
     ensures { λ r. ⌜ r ≡ sessionLine (now (s .entry)) ⌝ }
 {

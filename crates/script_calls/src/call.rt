@@ -24,8 +24,8 @@ pub fn play_call(kept: Kept, bytes: &mut [u8], request: Request, block: &[u8]) -
     answered_with(made, store_length)
 }
 
-// Makes TransferData with the bytes that a word stands for. Precondition: the buffer is as long as the word; `play` has one as long as the
-// line.
+// Makes TransferData with the bytes that a word stands for. Precondition: the buffer is at least as long as the word; `play` requires
+// one as long as the line.
 pub fn play_data(
     kept: Kept,
     bytes: &mut [u8],

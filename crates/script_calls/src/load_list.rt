@@ -39,7 +39,8 @@ fn play_list(kept: Kept, bytes: &mut [u8], first: u32, size: u32, list: &[u8]) -
     answered_with(made, length_after(answer, before, count))
 }
 
-// Does the same with the list that a word stands for. Precondition: the buffer is as long as the word; `play` has one as long as the line.
+// Does the same with the list that a word stands for. Precondition: the buffer is at least as long as the word; `play` requires one
+// as long as the line.
 pub fn play_load(
     kept: Kept,
     bytes: &mut [u8],

@@ -16,8 +16,8 @@ use crate::poke::play_poke;
 use script::line::ScriptLine;
 use script::place::part_at;
 
-// Plays a line by what it reads as, on the program's bytes. Precondition: the buffer is as long as the line; the bench has one for the
-// longest line.
+// Plays a line by what it reads as, on the program's bytes. Precondition: the buffer is at least as long as the line; the bench has one
+// for the longest line.
 pub fn play(
     kept: Kept,
     bytes: &mut [u8],

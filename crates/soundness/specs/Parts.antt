@@ -71,8 +71,8 @@ abbrev pub ProcessedAsListed : Transfers → List ℕ → ℕ → Bool → Type 
 ProcessedAsListed t ids count r =
     (entries : List model.Entry) → take count ids ≡ map plainId entries → r ≡ processedAsListed entries (viewPackages t)
 
--- what the check of the session and the kept values requires: "At most 16 packages.", ids that rise, and room in the list for the entries,
--- and in Processing for one more
+-- what the check of the session and the kept values requires: "At most 16 packages.", each sound by itself, with ids that rise, and room in the
+-- list for the entries, and in Processing for one more
 abbrev pub KeptCheckable : Phase → Transfers → ℕ → Type 0
 KeptCheckable phase t count =
     (t .count ≤ packagesMost) × (packagesRise 0 (t .next) (viewPackages t) ≡ true)

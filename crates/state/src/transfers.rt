@@ -29,7 +29,7 @@ pub fn no_transfers(first: u32) -> Transfers
 }
 
 // Puts a package in the place of the one at i. Precondition: i is below 16; the calls find i below the count, which is at most 16 in a
-// sound state.
+// sound state, and `call_examples` gives 0.
 pub fn with_package(t: Transfers, i: usize, p: Package) -> Transfers
     requires { ⌜ i < packagesMost ⌝ }
     ensures { λ r. ⌜ r ≡ withPackage i p t ⌝ }

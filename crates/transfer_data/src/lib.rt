@@ -88,7 +88,8 @@ pub fn transfer_data_on_sound(
     accept_block(s, store, i, p, block)
 }
 
-// TransferData(id, block counter, data): the counter begins at 1 and rises by one per accepted block.
+// TransferData(id, block counter, data): writes the block behind those received. The counter begins at 1 and rises by one per accepted
+// block.
 pub fn transfer_data(s: State, store: &mut [u8], id: u32, counter: u32, block: &[u8]) -> Answered
     ensures meaning { λ r. ⌜ viewAnswered r (now (store .exit)) ≡ dataStep s (now (store .entry)) id counter (now (block .entry)) ⌝ }
     ensures exact { λ r. ⌜ outcome r (now (store .exit)) ≡ dataCalled s (now (store .entry)) id counter (now (block .entry)) ⌝ }

@@ -10,7 +10,6 @@ use Rattle.manifest.specs.Package.{readPackage}
 use Rattle.manifest.specs.Answer.{refusalNumber}
 use Rattle.model.specs.State.{Store, transferred}
 use Rattle.model.specs.Areas as areas
-use Rattle.model.specs.Areas.{declared}
 use Rattle.model.specs.Sound.{packagesMost}
 use Rattle.model.specs.Calls.{transferExit}
 use Rattle.model.specs.Step.{ownRefusals, refusals, act, exitRefusals}
@@ -24,6 +23,7 @@ use Rattle.state.specs.Exact.{inState}
 use Rattle.state.specs.Outcome.{viewOutcome}
 use Rattle.state.proofs.Outcomes.{view-packages}
 use Rattle.areas.specs.Changed.{packageAt, withChanged}
+use Rattle.areas.specs.Inside.{readAt}
 use Rattle.areas.proofs.FoundPackage.{count-fits, FoundAt}
 use Rattle.areas.proofs.ChangedPackage.{view-changed}
 use Rattle.transfer_exit.specs.Exit.{exited}
@@ -39,7 +39,7 @@ module _ (s : State) (store : Store) (id : ℕ) where
   -- its refusals are the model's
   pub exit-own : (i : ℕ) → FoundAt s store id i
       → firstRefusal (ownRefusals (viewState s) store (transferExit id))
-      ≡ firstRefusal (exitRefusals (viewPackage (packageAt (s .transfers) i)) (readPackage (take (packageAt (s .transfers) i .size) (drop (declared (take i (viewPackages (s .transfers)))) store))))
+      ≡ firstRefusal (exitRefusals (viewPackage (packageAt (s .transfers) i)) (readAt (s .transfers) i (packageAt (s .transfers) i) store))
   unfolding ownRefusals
   exit-own i found =
       let ps = viewPackages (s .transfers) in

@@ -1,11 +1,10 @@
--- `clist::input::read_parts` meets its contract. The invariant: the bytes that were read stand in the buffer. The measure is the room left:
--- a part has a byte. Assumes nothing.
+-- `clist::input::read_parts` meets its contract. The invariant: the buffers keep their lengths, and what was read fits the first. The measure
+-- is the room left: a part has a byte. Assumes nothing.
 use Prim.Native.Nat.{_-_, _≤_}
 use mathlib.Core.Path.{_≡_}
 use lib.ListN.{length}
 use borrow.Author.Needs.{needs}
-use Rattle.clist.proofs.InputLaws.{counts-read}
-use native.Mathlib.Omega.{arith}
+use Rattle.clist.proofs.InputLaws.{part-one, part-inside, part-length, counts-read}
 use Rattle.clist.proofs.input.read_parts.Statement.{statement}
 use Rattle.clist.proofs.input.read_parts.Tie as tie
 
@@ -21,6 +20,12 @@ loop-holds c = search needs
 read-requires : tie.Need-read-requires Inv-loop μ-loop
 read-requires c κs = search needs
 
+part-read-requires : tie.Need-part-read-requires Inv-loop μ-loop
+part-read-requires c κs = search needs
+
+enum-told : tie.Need-enum-told Inv-loop μ-loop
+enum-told c = search needs
+
 same-length : tie.Need-same-length Inv-loop μ-loop
 same-length c = search needs
 
@@ -30,8 +35,8 @@ same-length-2 c = search needs
 returns : tie.Need-returns Inv-loop μ-loop
 returns c = search needs
 
-count-requires : tie.Need-count-requires Inv-loop μ-loop
-count-requires c κs = search needs
+enum-told-2 : tie.Need-enum-told-2 Inv-loop μ-loop
+enum-told-2 c = search needs
 
 same-length-3 : tie.Need-same-length-3 Inv-loop μ-loop
 same-length-3 c = search needs
@@ -42,14 +47,17 @@ same-length-4 c = search needs
 returns-2 : tie.Need-returns-2 Inv-loop μ-loop
 returns-2 c = search (counts-read, needs)
 
+enum-known-count : tie.Need-enum-known-count Inv-loop μ-loop
+enum-known-count c = search needs
+
 slice-reshare-prefix-take-part : tie.Need-slice-reshare-prefix-take-part Inv-loop μ-loop
-slice-reshare-prefix-take-part c = search needs
+slice-reshare-prefix-take-part c = search (part-inside, needs)
 
 slice-aggregate-take-part : tie.Need-slice-aggregate-take-part Inv-loop μ-loop
-slice-aggregate-take-part c = search needs
+slice-aggregate-take-part c = search (part-length, needs)
 
 take-part-requires : tie.Need-take-part-requires Inv-loop μ-loop
-take-part-requires c κs = search needs
+take-part-requires c κs = (search needs, search part-one)
 
 loop-less : tie.Need-loop-less Inv-loop μ-loop
 loop-less c = search needs
@@ -74,13 +82,16 @@ read-parts-spec =
     μ-loop
     loop-holds
     read-requires
+    part-read-requires
+    enum-told
     same-length
     same-length-2
     returns
-    count-requires
+    enum-told-2
     same-length-3
     same-length-4
     returns-2
+    enum-known-count
     slice-reshare-prefix-take-part
     slice-aggregate-take-part
     take-part-requires

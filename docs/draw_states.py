@@ -45,8 +45,13 @@ class Edge(NamedTuple):
 EDGES = [
     Edge(("Idle", "bottom", -25), ("Processing", "top", -25), "Process", "left"),
     Edge(("Ready", "top", -25), ("Processing", "bottom", -25), "Process", "left"),
-    Edge(("Processing", "bottom", 25), ("Ready", "top", 25), "Work: Processed,\nor Cancelled or Inconsistent\nwith a list", "right"),
-    Edge(("Processing", "top", 25), ("Idle", "bottom", 25), "Work: Cancelled or Inconsistent\nwithout a list", "right"),
+    Edge(
+        ("Processing", "bottom", 25),
+        ("Ready", "top", 25),
+        "Work: Processed,\nor Cancelled or Inconsistent\nif a package was processed",
+        "right",
+    ),
+    Edge(("Processing", "top", 25), ("Idle", "bottom", 25), "Work: Cancelled or Inconsistent\nif no package was processed", "right"),
     Edge(("Processing", "right", -10), ("Processing", "right", 10), "Work: Working\nCancel: Done", "right"),
     Edge(("Ready", "bottom", -25), ("Activating", "top", -25), "Activate", "left"),
     Edge(("Ready", "left", -10), ("CleaningUp", "right", -10), "Revert", "above"),

@@ -1,4 +1,5 @@
--- Parts of the input in the buffer: the room for each, and that a part with a byte brings the reading further. Assumes nothing.
+-- What a read gave, by the number that it answered; and parts of the input in the buffer: the room for each, and that a part with a byte
+-- brings the reading further. Assumes nothing.
 use Prim.Native.Nat.{ℕ, suc, _+_, _-_, _≤_, _<_, min}
 use mathlib.Core.Path.{_≡_, refl, sym, ap, _∙_}
 use mathlib.Core.Bool.{true, false, true≢false}

@@ -36,7 +36,7 @@ fn part_read(got: isize, part: &[u8]) -> PartRead
 }
 
 // Puts a part of the input behind the bytes that were read before, as much as there is room for; gives how many bytes there are then.
-// Precondition: there is room and the part has a byte; `read_parts` tests both.
+// Precondition: there is room, which `read_parts` has tested, and the part has a byte, as `part_read` gives it.
 fn take_part(buf: &mut [u8], done: usize, part: &[u8]) -> usize
     requires { ⌜ (done < length (now buf)) × (1 ≤ length (now part)) ⌝ }
     ensures bytes { λ r. ⌜ Put (now (buf .entry)) done (take (length (now (buf .entry)) - done) (now (part .entry))) r (now (buf .exit)) ⌝ }

@@ -35,7 +35,7 @@ use Rattle.state.specs.declared.answer.Answer.{Answer}
 use Rattle.state.specs.declared.answer.Answer.the-variants.{Done}
 use Rattle.state.specs.declared.answer.Answered.{Answered}
 use Rattle.state.specs.View.{viewPackages, viewPhase, entriesMost, viewSession, viewState}
-use Rattle.state.specs.Exact.{newSession, state, inPhase}
+use Rattle.state.specs.Exact.{state, inPhase}
 use Rattle.state.specs.Outcome.{Outcome, outcome, answered, viewOutcome}
 use Rattle.areas.specs.declared.deletion.Deletion.the-variants.{AllProcessed}
 use Rattle.areas.specs.Deletion.{keeps, remainingTransfers}
@@ -44,7 +44,7 @@ use Rattle.areas.proofs.Kept.{view-remaining}
 use Rattle.soundness.proofs.SoundSession.{session-fits, session-sound}
 use Rattle.staging.specs.Staged.{stagedTable, runningTable}
 use Rattle.staging.proofs.StagedViews.{view-staged, view-running}
-use Rattle.report.specs.Reported.{CleanUpFits, activatingReported, cleanedUp, failedPhase, phaseReported}
+use Rattle.report.specs.Reported.{CleanUpFits, activatingReported, nextSession, cleanedUp, failedPhase, phaseReported}
 
 -- ---- what a sound state meets
 
@@ -85,7 +85,7 @@ give-in s store phase known good o e f = rw e f
 
 -- after a clean-up
 pub give-cleaned : (s : State) (store store′ : Store) (origin : CleanUpOrigin) (table : Table) (transfers : Transfers) (session : Session) (r : Answered)
-    → table ≡ runningTable (CleaningUp origin) (s .session) → session ≡ newSession table
+    → table ≡ runningTable (CleaningUp origin) (s .session) → session ≡ nextSession (s .session) table
     → transfers ≡ remainingTransfers AllProcessed (s .transfers) → store′ ≡ deleted (keeps AllProcessed) (viewPackages (s .transfers)) store
     → r ≡ answered Done (state Idle transfers session (s .work)) → outcome r store′ ≡ cleanedUp s store origin
 give-cleaned s store store′ origin table transfers session r a b c d e = rw (e, d, c, b, a)

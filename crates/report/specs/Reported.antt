@@ -1,6 +1,7 @@
 -- Report on the code's structs, in each manager's state.
 use Prim.Native.Nat.{ℕ, _≤_}
 use mathlib.Core.Bool.{Bool, cond}
+use Rattle.clusters.specs.declared.table.Table.{Table}
 use Rattle.clusters.specs.Table.{needsMet}
 use Rattle.clusters.specs.View.{viewTable}
 use Rattle.model.specs.State.{Store}
@@ -13,12 +14,13 @@ use Rattle.state.specs.declared.phase.CleanUpOrigin.{CleanUpOrigin}
 use Rattle.state.specs.declared.phase.CleanUpOrigin.the-variants as cleanUp
 use Rattle.state.specs.declared.phase.Phase.{Phase}
 use Rattle.state.specs.declared.phase.Phase.the-variants.{Idle, Ready, Processing, Activating, Verifying, Activated, RollingBack, RolledBack, CleaningUp}
+use Rattle.state.specs.declared.session.Session.{Session}
 use Rattle.state.specs.declared.state.State.{State}
 use Rattle.state.specs.declared.answer.Answer.{Answer}
 use Rattle.state.specs.declared.answer.Answer.the-variants.{Done, PreActivationFailed, MissingDependencies, VerificationFailed, NotAbleToRollback, NotAbleToRevert, CleaningFailed}
 use Rattle.state.specs.declared.answer.Answered.{Answered}
 use Rattle.state.specs.View.{viewPackages, entriesMost}
-use Rattle.state.specs.Exact.{newSession, state, inPhase}
+use Rattle.state.specs.Exact.{state, inPhase}
 use Rattle.state.specs.Outcome.{Outcome, outcome, answered, refusedBy, called, calledOnSound}
 use Rattle.areas.specs.declared.deletion.Deletion.the-variants.{AllProcessed}
 use Rattle.areas.specs.Deletion.{keeps, remainingTransfers}
@@ -54,8 +56,12 @@ abbrev pub rollingBackReported : State → RollbackOrigin → Bool → Answered
 rollingBackReported s origin good =
     cond good (answered Done (inPhase RolledBack s)) (answered NotAbleToRollback (inPhase (rollbackPhase origin) s))
 
--- "CleaningUp: good gives Idle and deletes all Processed packages"; "going to Idle empties the session's list". The running table, "the
--- staged one in .. CleaningUp after Finish from Activated", "begins the next session"
+-- "going to Idle empties the session's list", and a table "begins the next session". The places of the list, now unused, keep what they had
+abbrev pub nextSession : Session → Table → Session
+nextSession session table = record { beginning = table; entries = session .entries; count = 0 }
+
+-- "CleaningUp: good gives Idle and deletes all Processed packages". It is the running table, "the staged one in .. CleaningUp after Finish
+-- from Activated", that begins the next session
 abbrev pub cleanedUp : State → Store → CleanUpOrigin → Outcome
 cleanedUp s store origin =
     outcome
@@ -63,7 +69,7 @@ cleanedUp s store origin =
     (state
     Idle
     (remainingTransfers AllProcessed (s .transfers))
-    (newSession (runningTable (CleaningUp origin) (s .session)))
+    (nextSession (s .session) (runningTable (CleaningUp origin) (s .session)))
     (s .work)))
     (deleted (keeps AllProcessed) (viewPackages (s .transfers)) store)
 

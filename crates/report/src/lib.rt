@@ -3,6 +3,7 @@ use areas::deletion::Deletion;
 use areas::deletion::delete_areas;
 use areas::deletion::remaining;
 use clusters::needs::needs_met;
+use clusters::table::Table;
 use refusal::BAD_STATE;
 use refusal::OPERATION_NOT_PERMITTED;
 use soundness::sound::sound;
@@ -17,7 +18,7 @@ use state::permissions::allowed;
 use state::phase::CleanUpOrigin;
 use state::phase::Phase;
 use state::phase::RollbackOrigin;
-use state::session::new_session;
+use state::session::Session;
 use state::state::State;
 use state::state::in_phase;
 ghost use mathlib.Core.Path.{_≡_};
@@ -33,7 +34,7 @@ ghost use Rattle.state.specs.View.{entriesMost, viewSession, viewState};
 ghost use Rattle.state.specs.Outcome.{outcome, viewAnswered, SoundIfAccepted};
 ghost use Rattle.staging.specs.Staged.{stagedTable};
 ghost use Rattle.report.specs.Reported.{CleanUpFits, activatingReported, verifyingReported, rollbackPhase, rollingBackReported};
-ghost use Rattle.report.specs.Reported.{cleanedUp, failedAnswer, failedPhase, cleaningUpReported, phaseReported};
+ghost use Rattle.report.specs.Reported.{nextSession, cleanedUp, failedAnswer, failedPhase, cleaningUpReported, phaseReported};
 ghost use Rattle.report.specs.Reported.{reportCalled, reportCalledOnSound};
 
 // Answers a report in Activating: an unmet need of the staged table comes before a bad report, because a missing package is looked for
@@ -93,6 +94,19 @@ fn report_rolling_back(s: State, origin: RollbackOrigin, good: bool) -> Answered
     )
 }
 
+// Gives the session after a clean-up: a table begins it, and its list is empty. The places of the list keep what they had, which plays no
+// part; to clear them would cost every call, because the code of all calls is compiled together.
+fn next_session(session: Session, beginning: Table) -> Session
+    ensures { λ r. ⌜ r ≡ nextSession session beginning ⌝ }
+{
+    let entries = session.entries;
+    Session {
+        beginning: beginning,
+        entries: entries,
+        count: 0,
+    }
+}
+
 // Ends a clean-up that was good: goes to Idle without the Processed packages, and the running table begins the next session. Precondition:
 // there are at most 16 packages, whose areas fit the store, and at most 16 entries; a sound state meets it.
 fn clean_up(s: State, store: &mut [u8], origin: CleanUpOrigin) -> Answered
@@ -100,7 +114,7 @@ fn clean_up(s: State, store: &mut [u8], origin: CleanUpOrigin) -> Answered
     ensures { λ r. ⌜ outcome r (now (store .exit)) ≡ cleanedUp s (now (store .entry)) origin ⌝ }
 {
     let session = s.session;
-    let next = new_session(running(Phase::CleaningUp(origin), session));
+    let next = next_session(session, running(Phase::CleaningUp(origin), session));
     let t = s.transfers;
     let deletion = Deletion::AllProcessed;
     delete_areas(t, deletion, store);

@@ -7,8 +7,8 @@ use Rattle.report.proofs.clean_up.Tie as tie
 running-requires : tie.Need-running-requires
 running-requires c κs = search needs
 
-new-session-requires : tie.Need-new-session-requires
-new-session-requires c κs = search needs
+next-session-requires : tie.Need-next-session-requires
+next-session-requires c κs = search needs
 
 delete-areas-requires : tie.Need-delete-areas-requires
 delete-areas-requires c κs = search needs
@@ -30,7 +30,7 @@ clean-up-spec =
     tie.close
     (tie.spec
     running-requires
-    new-session-requires
+    next-session-requires
     delete-areas-requires
     remaining-requires
     answer-with-requires

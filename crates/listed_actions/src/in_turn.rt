@@ -54,8 +54,8 @@ fn staged_after(change: Change, staged: usize) -> usize
 }
 
 // Says whether the first count of the listed actions pass 11 to 15 and 21 in turn on the table that the columns are of, where the table and
-// the actions are within their limits. Precondition: both counts fit their arrays; `session_sound` checks the table and requires the count
-// of entries.
+// the actions are within their limits. Precondition: both counts fit their arrays; `soundness` has checked the limits of the table and
+// requires the count of entries.
 pub fn pass_in_turn(columns: Columns, entries: [Entry; ENTRIES_MOST], count: usize) -> bool
     requires { ⌜ (columns .count ≤ clustersMost) × (count ≤ entriesMost) ⌝ }
     ensures { λ r. ⌜ PassesInTurn columns entries count r ⌝ }

@@ -1,9 +1,10 @@
 -- The session and the kept values in the order in which the code decides them. In Processing the kept action is one more behind the list,
 -- and cleared values are found by their part number 0; outside it they are looked at first. Assumes nothing.
-use Prim.Native.Nat.{ℕ, _≤_}
-use mathlib.Core.Path.{_≡_, sym, ap, ap₂, _∙_}
+use Prim.Native.Nat.{ℕ, _≤_, _<_}
+use mathlib.Core.Path.{_≡_, refl, sym, ap, ap₂, _∙_}
 use mathlib.Core.Bool.{Bool, true, false, _&&_, and-comm, false≢true}
 use mathlib.Core.List.{List, [], _∷_, _++_, map}
+use native.Mathlib.Omega.{arith}
 use lib.Dec.{eqb}
 use lib.ListN.{take}
 use borrow.Author.Tests.{eqb-true}
@@ -31,7 +32,7 @@ use Rattle.state.specs.declared.session.Entry.{Entry}
 use Rattle.state.specs.declared.work.Work.{Work}
 use Rattle.state.specs.View.{entriesMost, viewEntry, clearedEntry, isInstall, isClearedWork, keptWork, viewWork}
 use Rattle.listed_actions.specs.Listed.{listedActions}
-use Rattle.soundness.specs.Parts.{countedEntries, countedSession, workNumbersSound, sessionPartSound, actionsSound}
+use Rattle.soundness.specs.Parts.{countedEntries, countedSession, workNumbersSound, keptValuesSound, listedWithKept, actionsWithKept, sessionPartSound, actionsSoundOn}
 use Rattle.soundness.proofs.Order.{kept-action-last}
 
 -- ---- cleared values have no action within the limits
@@ -62,9 +63,9 @@ module _ (beginning : Table) (entries : List Entry) (count : ℕ) (few : count �
       ap (λ (l : List Entry). actions (map viewEntry l)) (counted-few entriesMost count clearedEntry entries few)
       ∙ map-twice viewEntry (λ e. e .action) (take count entries)
 
-  session-is : sessionSound session ≡ actionsSound table (listedActions entries count)
+  session-is : sessionSound session ≡ tableWithin table && actionsSoundOn table (listedActions entries count)
   unfolding sessionSound
-  session-is = ap (actionsSound table) same-actions
+  session-is = ap (λ (acts : List Action). tableWithin table && actionsSoundOn table acts) same-actions
 
   module _ (phase : Phase) (ps : List Package) (w : Work) where
     abbrev whole : Bool
@@ -76,17 +77,11 @@ module _ (beginning : Table) (entries : List Entry) (count : ℕ) (few : count �
     unfolding keptSound
     kept-outside out = bool-cases (isClearedWork w) (λ e. rw (e, out)) λ e. rw (e, out)
 
-    outside : isProcessing phase ≡ false → whole ≡ isClearedWork w && actionsSound table (listedActions entries count)
+    outside : isProcessing phase ≡ false → whole ≡ isClearedWork w && (tableWithin table && actionsSoundOn table (listedActions entries count))
     outside out =
         ap (λ (b : Bool). sessionSound session && b) (kept-outside out)
         ∙ and-comm (sessionSound session) (isClearedWork w)
         ∙ ap (λ (b : Bool). isClearedWork w && b) session-is
-
-    pub uncleared : isProcessing phase ≡ false → isClearedWork w ≡ false → false ≡ whole
-    uncleared out h = and-stop (isClearedWork w) _ h ∙ sym (outside out)
-
-    pub cleared : isProcessing phase ≡ false → isClearedWork w ≡ true → (r : Bool) → r ≡ actionsSound table (listedActions entries count) → r ≡ whole
-    cleared out h r told = and-on (isClearedWork w) _ r h told ∙ sym (outside out)
 
     -- ---- in Processing
 
@@ -109,16 +104,44 @@ module _ (beginning : Table) (entries : List Entry) (count : ℕ) (few : count �
     unfolding keptSound
     kept-in in-it = bool-cases (isClearedWork w) (λ e. rw (e, in-it, cleared-work e)) λ e. rw (e, in-it)
 
-    inside : isProcessing phase ≡ true → whole ≡ workNumbersSound w size && actionsSound table (listedActions entries count ++ kept ∷ [])
+    inside : isProcessing phase ≡ true
+        → whole ≡ workNumbersSound w size && (tableWithin table && actionsSoundOn table (listedActions entries count ++ kept ∷ []))
     inside in-it =
         let acts = listedActions entries count in
         ap₂ _&&_ session-is (kept-in in-it ∙ work-is)
         ∙ kept-action-last (tableWithin table) (actionsWithin acts) (passInTurn table [] acts) (actionWithin kept) (passes (applyAll table acts) acts kept) (workNumbersSound w size)
         ∙ ap₂ (λ (a b : Bool). workNumbersSound w size && (tableWithin table && (a && b))) (sym (actions-within-last acts kept)) (sym (pass-in-turn-last table [] acts kept))
 
-    pub numbers-off : isProcessing phase ≡ true → workNumbersSound w size ≡ false → false ≡ whole
-    numbers-off in-it h = and-stop (workNumbersSound w size) _ h ∙ sym (inside in-it)
+    -- ---- both together, as the code is told which it is
 
-    pub numbers-right : isProcessing phase ≡ true → workNumbersSound w size ≡ true → (acts : List Action) → acts ≡ listedActions entries count ++ kept ∷ []
-        → (r : Bool) → r ≡ actionsSound table acts → r ≡ whole
-    numbers-right in-it h acts more r told = and-on (workNumbersSound w size) _ r h (told ∙ ap (actionsSound table) more) ∙ sym (inside in-it)
+    abbrev checked : Bool → List Action
+    checked processing = actionsWithKept processing entries count (w .action)
+
+    decided : (processing : Bool) → processing ≡ isProcessing phase
+        → whole ≡ keptValuesSound processing ps w && (tableWithin table && actionsSoundOn table (checked processing))
+    decided true told = inside (sym told)
+    decided false told = outside (sym told)
+
+    none-checked : (processing : Bool) → listedWithKept processing count < 1 → checked processing ≡ []
+    none-checked true h = absurd (omega arith)
+    none-checked false h = let none : count ≡ 0 = omega arith in rw none
+
+    module _ (processing : Bool) (told : processing ≡ isProcessing phase) where
+      abbrev values : Bool
+      values = keptValuesSound processing ps w
+
+      pub values-off : values ≡ false → false ≡ whole
+      values-off h = and-stop values _ h ∙ sym (decided processing told)
+
+      module _ (right : values ≡ true) where
+        pub table-off : tableWithin table ≡ false → false ≡ whole
+        table-off h = and-on values _ _ right (and-stop (tableWithin table) _ h) ∙ sym (decided processing told)
+
+        pub actions-decide : tableWithin table ≡ true → (acts : List Action) → acts ≡ checked processing
+            → (r : Bool) → r ≡ actionsSoundOn table acts → r ≡ whole
+        actions-decide fits acts same r found =
+            and-on values _ r right (and-on (tableWithin table) _ r fits (found ∙ ap (actionsSoundOn table) same)) ∙ sym (decided processing told)
+
+        pub nothing-listed : tableWithin table ≡ true → listedWithKept processing count < 1 → true ≡ whole
+        unfolding actionsWithin passInTurn
+        nothing-listed fits h = actions-decide fits [] (sym (none-checked processing h)) true refl

@@ -1,6 +1,6 @@
 -- The session's list against the packages, in the order in which the code decides it: a list with as many entries as there are Processed
 -- packages fits its array. Of the array's room only that it has a place for each package is used. Assumes nothing.
-use Prim.Native.Nat.{ℕ, _+_, _≤_}
+use Prim.Native.Nat.{ℕ, _+_, _≤_, _<_}
 use mathlib.Core.Path.{_≡_, refl, sym, ap, _∙_}
 use mathlib.Core.Bool.{Bool, true, false, cond, _&&_}
 use mathlib.Core.List.{List, [], _∷_, map}
@@ -10,12 +10,12 @@ use lib.ListN.{length, take, length-map, length-take, length-replicate, replicat
 use borrow.Author.Tests.{eq-eqb, ne-eqb, eqb-true, le-leb, leb-true}
 use Rattle.base.specs.Counted.{counted}
 use Rattle.base.proofs.Counted.{counted-few}
-use Rattle.base.proofs.Tests.{and-left, and-right}
+use Rattle.base.proofs.Tests.{and-left, and-right, bool-cases}
 use Rattle.base.proofs.Ladder.{and-stop, and-on}
 use Rattle.clusters.proofs.ColumnLaws.{map-twice}
 use Rattle.model.specs.State.{PackageState, transferring, transferred, beingProcessed, processed, Package, Phase, Entry, isProcessing}
 use Rattle.model.specs.Areas.{isBeingProcessed, isProcessed, countIn}
-use Rattle.model.specs.Sound.{packagesMost, processedAsListed, listSound, processingSound, listFits}
+use Rattle.model.specs.Sound.{packagesMost, isListed, processedAsListed, listSound, processingSound, listFits}
 use Rattle.state.specs.declared.transfers.Transfers.{Transfers}
 use Rattle.state.specs.declared.session.Entry.{Entry as EntryStruct}
 use Rattle.state.specs.View.{viewPackages, entriesMost, viewEntry, clearedEntry}
@@ -56,6 +56,15 @@ pub counted-ids : (entries : List EntryStruct) (count : ℕ) → count ≤ entri
 counted-ids entries count few =
     sym (ap (λ (l : List EntryStruct). map plainId (map viewEntry l)) (counted-few entriesMost count clearedEntry entries few) ∙ map-twice viewEntry plainId (take count entries))
 
+-- no entry lists the packages of which none is Processed
+none-processed : (ps : List Package) → countIn isProcessed ps ≡ 0 → processedAsListed [] ps ≡ true
+unfolding countIn processedAsListed isListed
+none-processed [] e = refl
+none-processed (p ∷ ps) e =
+    bool-cases (isProcessed (p .state))
+    (λ is. absurd (omega (arith, rw is at e)))
+    λ is. rw (is, none-processed ps (omega (arith, rw is at e)))
+
 module _ (entries : List EntryStruct) (count : ℕ) (long : length entries ≡ entriesMost) where
   pub counted-length : length (countedEntries entries count) ≡ count
   counted-length = length-map (counted entriesMost clearedEntry count entries) viewEntry ∙ go (leb count entriesMost) refl
@@ -88,6 +97,12 @@ module _ (entries : List EntryStruct) (count : ℕ) (long : length entries ≡ e
 
     pub phase-fit : count ≡ countIn isProcessed ps → phasePart ≡ true → (r : Bool) → r ≡ processedAsListed listed ps → r ≡ whole
     phase-fit h e r told = and-on (eqb count (countIn isProcessed ps)) _ _ (eq-eqb _ _ h) (and-on phasePart _ r e told) ∙ sym parts
+
+    -- with no entry and no Processed package
+    pub none-listed : count < 1 → count ≡ countIn isProcessed ps → phasePart ≡ true → true ≡ whole
+    none-listed few h e =
+        let none : count ≡ 0 = omega arith in
+        phase-fit h e true (rw none (sym (none-processed ps (sym h ∙ none))))
 
     -- what a sound list says of the numbers
     pub numbers-told : whole ≡ true → (count ≡ countIn isProcessed ps) × (countIn isBeingProcessed ps ≡ cond (isProcessing phase) 1 0)

@@ -15,8 +15,8 @@ pub struct Counts {
     pub processing: usize,
 }
 
-// Gives what a package adds to a count.
-fn one_if(holds: bool) -> usize
+// Gives what something adds to a count where it is there.
+pub fn one_if(holds: bool) -> usize
     ensures { λ r. ⌜ r ≡ cond holds 1 0 ⌝ }
 {
     if holds { 1 } else { 0 }

@@ -34,7 +34,8 @@ fn processed_as_listed(t: Transfers, ids: [u32; ENTRIES_MOST], listed: usize) ->
 }
 
 // Says whether the listed entries are those of exactly the Processed packages, and the manager's state goes with their number and with the
-// packages that are Processing. Precondition: there are at most 16 packages; `transfers_sound` checks it before.
+// packages that are Processing. Where there is no entry, and so no Processed package, nothing more is compared. Precondition: there are at
+// most 16 packages; `transfers_sound` checks it before.
 pub fn list_sound(phase: Phase, t: Transfers, entries: [Entry; ENTRIES_MOST], count: usize) -> bool
     requires { ⌜ t .count ≤ packagesMost ⌝ }
     ensures { λ r. ⌜ r ≡ listPartSound (viewPhase phase) (viewPackages t) (countedEntries entries count) ⌝ }
@@ -45,6 +46,9 @@ pub fn list_sound(phase: Phase, t: Transfers, entries: [Entry; ENTRIES_MOST], co
     }
     if !phase_fits(phase, counts.processing, count) {
         return false;
+    }
+    if count < 1 {
+        return true;
     }
     let columns = entry_columns(entries, count);
     let ids = columns.ids;

@@ -5,18 +5,19 @@ use clusters::columns::columns_of;
 use clusters::table::Table;
 use clusters::within::cluster_within;
 use clusters::within::part_within;
-use clusters::within::table_within;
 use listed_actions::in_turn::pass_in_turn;
 use state::limits::ENTRIES_MOST;
 use state::session::Entry;
 ghost use mathlib.Core.Path.{_≡_};
+ghost use mathlib.Core.Bool.{true};
 ghost use Prim.Native.Nat.{_≤_};
+ghost use Rattle.clusters.specs.Table.{tableWithin};
 ghost use Rattle.clusters.specs.View.{viewTable};
 ghost use Rattle.actions.specs.Action.{actionWithin, actionsWithin};
 ghost use Rattle.actions.specs.View.{viewAction};
 ghost use Rattle.state.specs.View.{entriesMost};
 ghost use Rattle.listed_actions.specs.Listed.{listedActions};
-ghost use Rattle.soundness.specs.Parts.{actionsSound};
+ghost use Rattle.soundness.specs.Parts.{actionsSoundOn};
 
 // Says whether an action is within its limits. Of a remove only the part number counts.
 fn action_within(action: Action) -> bool
@@ -31,7 +32,7 @@ fn action_within(action: Action) -> bool
     }
 }
 
-// Says whether each listed action is within its limits. Precondition: the count is at most 16; `session_sound` requires it too.
+// Says whether each listed action is within its limits. Precondition: the count is at most 16; `actions_sound` requires it too.
 fn actions_within(entries: [Entry; ENTRIES_MOST], count: usize) -> bool
     requires { ⌜ count ≤ entriesMost ⌝ }
     ensures { λ r. ⌜ r ≡ actionsWithin (listedActions entries count) ⌝ }
@@ -48,15 +49,13 @@ fn actions_within(entries: [Entry; ENTRIES_MOST], count: usize) -> bool
     true
 }
 
-// Says whether the beginning table and the first count of the listed actions are within their limits and the actions pass 11 to 15 and 21
-// in turn. Precondition: the count is at most 16; `session_and_kept_sound` requires the room for it.
-pub fn session_sound(beginning: Table, entries: [Entry; ENTRIES_MOST], count: usize) -> bool
-    requires { ⌜ count ≤ entriesMost ⌝ }
-    ensures { λ r. ⌜ r ≡ actionsSound (viewTable beginning) (listedActions entries count) ⌝ }
+// Says whether the first count of the listed actions are within their limits and pass 11 to 15 and 21 in turn on the beginning table.
+// Precondition: the table is within its limits and the count is at most 16; `session_and_kept_sound` has checked the one and requires the
+// room for the other.
+pub fn actions_sound(beginning: Table, entries: [Entry; ENTRIES_MOST], count: usize) -> bool
+    requires { ⌜ (tableWithin (viewTable beginning) ≡ true) × (count ≤ entriesMost) ⌝ }
+    ensures { λ r. ⌜ r ≡ actionsSoundOn (viewTable beginning) (listedActions entries count) ⌝ }
 {
-    if !table_within(beginning) {
-        return false;
-    }
     if !actions_within(entries, count) {
         return false;
     }

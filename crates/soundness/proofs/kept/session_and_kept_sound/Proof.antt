@@ -1,107 +1,116 @@
--- `soundness::kept::session_and_kept_sound` meets its contract: outside Processing the values are cleared, in it their numbers are looked
--- at first and their action is checked as one more of the list. Assumes nothing.
+-- `soundness::kept::session_and_kept_sound` meets its contract: the kept values but for their action first, then the table, and the listed
+-- actions, with the kept one of Processing behind them, where there is any. Assumes nothing.
 use borrow.Author.Needs.{needs}
 use native.Mathlib.Omega.{arith}
-use mathlib.Core.Path.{_≡_, ap, _∙_}
-use mathlib.Core.Bool.{true, false}
-use Prim.Native.Nat.{_+_, _≤_}
+use mathlib.Core.Path.{_≡_, sym, ap, _∙_}
+use mathlib.Core.Bool.{true, cond}
+use Prim.Native.Nat.{ℕ, _+_, _≤_}
 use Rattle.base.proofs.Ladder.{told-no, told-yes}
-use Rattle.model.specs.State.{isProcessing}
-use Rattle.model.specs.Areas.{packageOf, processingId}
+use Rattle.clusters.specs.Table.{tableWithin}
+use Rattle.clusters.specs.View.{viewTable}
 use Rattle.state.specs.View.{viewPackages, viewPhase, entriesMost}
-use Rattle.soundness.specs.Parts.{workNumbersSound}
-use Rattle.soundness.proofs.KeptParts.{uncleared, cleared, numbers-off, numbers-right}
+use Rattle.listed_actions.specs.Listed.{listedActions}
+use Rattle.soundness.specs.Parts.{keptValuesSound, listedWithKept}
+use Rattle.soundness.proofs.KeptParts.{values-off, table-off, nothing-listed, actions-decide}
 use Rattle.soundness.proofs.kept.session_and_kept_sound.Statement.{statement}
 use Rattle.soundness.proofs.kept.session_and_kept_sound.Tie as tie
 
 is-processing-requires : tie.Need-is-processing-requires
 is-processing-requires c κs = search needs
 
-is-cleared-work-requires : tie.Need-is-cleared-work-requires
-is-cleared-work-requires c κs = search needs
+values-sound-requires : tie.Need-values-sound-requires
+values-sound-requires c κs = search needs
 
-room : (c : tie.Start) → c .args .count ≤ entriesMost
-room c = omega (arith, c .pre .2)
-
--- ---- outside Processing
-
-out : (c : tie.Then1) → isProcessing (viewPhase (c .before .before .args .phase)) ≡ false
-out c = told-no _ _ (c .before .is-processing .ensures) (c .if1 .taken)
+few : (c : tie.Start) → c .args .count ≤ entriesMost
+few c = omega (arith, c .pre .2)
 
 returns : tie.Need-returns
 returns c =
     let k = c .before in
-    let s = k .before .before .before in
-    uncleared (s .args .beginning) (s .args .entries) (s .args .count) (room s) (viewPhase (s .args .phase)) (viewPackages (s .args .t)) (s .args .w)
-    (out (k .before)) (told-no _ _ (k .is-cleared-work .ensures) (c .if2 .taken))
+    let p = k .before in
+    let s = p .before in
+    values-off (s .args .beginning) (s .args .entries) (s .args .count) (few s) (viewPhase (s .args .phase)) (viewPackages (s .args .t)) (s .args .w)
+    _ (p .is-processing .ensures) (told-no _ _ (k .values-sound .ensures) (c .if1 .taken))
 
-session-sound-requires : tie.Need-session-sound-requires
-session-sound-requires c κs = room (c .before .before .before .before)
+values-right : (c : tie.Else1) → (let p = c .before .before in let a = p .before .args in
+    keptValuesSound (p .is-processing .result) (viewPackages (a .t)) (a .w) ≡ true)
+values-right c = told-yes _ _ (c .before .values-sound .ensures) (c .if1 .left)
+
+table-within-requires : tie.Need-table-within-requires
+table-within-requires c κs = search needs
 
 returns-2 : tie.Need-returns-2
 returns-2 c =
-    let k = c .before .before in
-    let s = k .before .before .before in
-    cleared (s .args .beginning) (s .args .entries) (s .args .count) (room s) (viewPhase (s .args .phase)) (viewPackages (s .args .t)) (s .args .w)
-    (out (k .before)) (told-yes _ _ (k .is-cleared-work .ensures) (c .before .if2 .left)) _ (c .session-sound .ensures)
+    let k = c .before in
+    let e = k .before in
+    let p = e .before .before in
+    let s = p .before in
+    table-off (s .args .beginning) (s .args .entries) (s .args .count) (few s) (viewPhase (s .args .phase)) (viewPackages (s .args .t)) (s .args .w)
+    _ (p .is-processing .ensures) (values-right e) (told-no _ _ (k .table-within .ensures) (c .if2 .taken))
 
--- ---- in Processing
+fits : (c : tie.Else2) → tableWithin (viewTable (c .before .before .before .before .before .args .beginning)) ≡ true
+fits c = told-yes _ _ (c .before .table-within .ensures) (c .if2 .left)
 
-in-it : (c : tie.Else1) → isProcessing (viewPhase (c .before .before .args .phase)) ≡ true
-in-it c = told-yes _ _ (c .before .is-processing .ensures) (c .if1 .left)
+one-if-requires : tie.Need-one-if-requires
+one-if-requires c κs = search needs
 
-room-for-one : (c : tie.Else1) → c .before .before .args .count + 1 ≤ entriesMost
-room-for-one c = rw (in-it c) at (c .before .before .pre .2)
+-- there is room for as many as are checked
+room : (c : tie.After-one-if) → (let p = c .before .before .before .before .before in
+    listedWithKept (p .is-processing .result) (p .before .args .count) ≤ entriesMost)
+room c =
+    let p = c .before .before .before .before .before in
+    rw (p .is-processing .ensures) (p .before .pre .2)
 
-processing-size-requires : tie.Need-processing-size-requires
-processing-size-requires c κs = search needs
+-- as many are checked as the code counts
+as-many : (c : tie.After-one-if) → (let p = c .before .before .before .before .before in
+    p .before .args .count + c .one-if .result ≡ listedWithKept (p .is-processing .result) (p .before .args .count))
+as-many c = let s = c .before .before .before .before .before .before in ap (λ (n : ℕ). s .args .count + n) (c .one-if .ensures)
 
-numbers-sound-requires : tie.Need-numbers-sound-requires
-numbers-sound-requires c κs = search needs
-
-numbers-told : (c : tie.After-numbers-sound) → (let a = c .before .before .before .before .args in let ps = viewPackages (a .t) in
-    c .numbers-sound .result ≡ workNumbersSound (a .w) (packageOf (processingId ps) ps .size))
-numbers-told c =
-    let a = c .before .before .before .before .args in
-    c .numbers-sound .ensures ∙ ap (workNumbersSound (a .w)) (c .before .processing-size .ensures)
+add-listed : tie.Need-add-listed
+add-listed c = omega (arith, room c, as-many c)
 
 returns-3 : tie.Need-returns-3
 returns-3 c =
-    let k = c .before in
-    let s = k .before .before .before .before in
-    numbers-off (s .args .beginning) (s .args .entries) (s .args .count) (room s) (viewPhase (s .args .phase)) (viewPackages (s .args .t)) (s .args .w)
-    (in-it (k .before .before)) (told-no _ _ (numbers-told k) (c .if3 .taken))
+    let o = c .before in
+    let f = o .before in
+    let e = f .before .before in
+    let p = e .before .before in
+    let s = p .before in
+    nothing-listed (s .args .beginning) (s .args .entries) (s .args .count) (few s) (viewPhase (s .args .phase)) (viewPackages (s .args .t)) (s .args .w)
+    _ (p .is-processing .ensures) (values-right e) (fits f) (omega (arith, as-many o, c .if3 .taken))
 
-with-action-requires : tie.Need-with-action-requires
-with-action-requires c κs = omega (arith, room-for-one (c .before .before .before .before))
+with-kept-requires : tie.Need-with-kept-requires
+with-kept-requires c κs = room (c .before .before)
 
-add-session-sound : tie.Need-add-session-sound
-add-session-sound c = search needs
-
-session-sound-requires-2 : tie.Need-session-sound-requires-2
-session-sound-requires-2 c κs = room-for-one (c .before .before .before .before .before)
+actions-sound-requires : tie.Need-actions-sound-requires
+actions-sound-requires c κs =
+    let o = c .before .before .before in
+    (fits (o .before), omega (arith, room o, as-many o))
 
 returns-4 : tie.Need-returns-4
 returns-4 c =
-    let more = c .before in
-    let k = more .before .before .before in
-    let s = k .before .before .before .before in
-    numbers-right (s .args .beginning) (s .args .entries) (s .args .count) (room s) (viewPhase (s .args .phase)) (viewPackages (s .args .t)) (s .args .w)
-    (in-it (k .before .before)) (told-yes _ _ (numbers-told k) (more .before .before .if3 .left)) _ (more .with-action .ensures) _ (c .session-sound2 .ensures)
+    let w = c .before in
+    let o = w .before .before .before in
+    let f = o .before in
+    let e = f .before .before in
+    let p = e .before .before in
+    let s = p .before in
+    actions-decide (s .args .beginning) (s .args .entries) (s .args .count) (few s) (viewPhase (s .args .phase)) (viewPackages (s .args .t)) (s .args .w)
+    _ (p .is-processing .ensures) (values-right e) (fits f) _
+    (ap (listedActions (w .with-kept .result)) (as-many o) ∙ w .with-kept .ensures) _ (c .actions-sound .ensures)
 
 pub session-and-kept-sound-spec : {M : Type 1} → statement M
 session-and-kept-sound-spec =
     tie.close
     (tie.spec
     is-processing-requires
-    is-cleared-work-requires
+    values-sound-requires
     returns
-    session-sound-requires
+    table-within-requires
     returns-2
-    processing-size-requires
-    numbers-sound-requires
+    one-if-requires
+    add-listed
     returns-3
-    with-action-requires
-    add-session-sound
-    session-sound-requires-2
+    with-kept-requires
+    actions-sound-requires
     returns-4)

@@ -1,8 +1,8 @@
--- `soundness::listed::list_sound` meets its contract: the number of entries first, then the manager's state, then each package.
--- Assumes nothing.
+-- `soundness::listed::list_sound` meets its contract: the number of entries first, then the manager's state, then each package
+-- where there is an entry. Assumes nothing.
 use borrow.Author.Needs.{needs}
 use mathlib.Core.Path.{_≡_, sym, ap, _∙_}
-use mathlib.Core.Bool.{cond, _&&_}
+use mathlib.Core.Bool.{true, cond, _&&_}
 use Prim.Native.Nat.{_≤_}
 use native.Mathlib.Omega.{arith}
 use lib.Dec.{eqb}
@@ -15,7 +15,7 @@ use Rattle.model.specs.Sound.{listFits}
 use Rattle.state.specs.View.{viewPackages, viewPhase, entriesMost}
 use Rattle.soundness.specs.declared.counts.Counts.{Counts}
 use Rattle.soundness.specs.Parts.{countedEntries}
-use Rattle.soundness.proofs.ListParts.{room-for-all, counted-ids, counted-length, other-count, phase-unfit, phase-fit}
+use Rattle.soundness.proofs.ListParts.{room-for-all, counted-ids, counted-length, other-count, phase-unfit, phase-fit, none-listed}
 use Rattle.soundness.proofs.listed.list_sound.Statement.{statement}
 use Rattle.soundness.proofs.listed.list_sound.Tie as tie
 
@@ -62,21 +62,32 @@ few c =
     let s = c .before .before .before .before .before in
     omega (arith, many (c .before .before), room-for-all (s .args .t) (s .pre))
 
-entry-columns-requires : tie.Need-entry-columns-requires
-entry-columns-requires c κs = few c
-
-processed-as-listed-requires : tie.Need-processed-as-listed-requires
-processed-as-listed-requires c κs =
-    let k = c .before .before in
-    (k .before .before .before .before .before .pre, few k)
+phase-right : (c : tie.Else2) → (let a = c .before .before .before .before .before .args in let listed = countedEntries (a .entries) (a .count) in
+    eqb (countIn isBeingProcessed (viewPackages (a .t))) (cond (isProcessing (viewPhase (a .phase))) 1 0) && listFits (viewPhase (a .phase)) listed ≡ true)
+phase-right c = told-yes _ _ (phase-told (c .before)) (c .if2 .left)
 
 returns-3 : tie.Need-returns-3
 returns-3 c =
+    let k = c .before in
+    let s = k .before .before .before .before .before in
+    none-listed (s .args .entries) (s .args .count) (long s) (viewPhase (s .args .phase)) (viewPackages (s .args .t))
+    (c .if3 .taken) (many (k .before .before)) (phase-right k)
+
+entry-columns-requires : tie.Need-entry-columns-requires
+entry-columns-requires c κs = few (c .before)
+
+processed-as-listed-requires : tie.Need-processed-as-listed-requires
+processed-as-listed-requires c κs =
+    let k = c .before .before .before in
+    (k .before .before .before .before .before .pre, few k)
+
+returns-4 : tie.Need-returns-4
+returns-4 c =
     let x = c .before .before in
-    let k = x .before in
+    let k = x .before .before in
     let s = k .before .before .before .before .before in
     phase-fit (s .args .entries) (s .args .count) (long s) (viewPhase (s .args .phase)) (viewPackages (s .args .t))
-    (many (k .before .before)) (told-yes _ _ (phase-told (k .before)) (k .if2 .left)) _
+    (many (k .before .before)) (phase-right k) _
     (c .processed-as-listed .ensures (countedEntries (s .args .entries) (s .args .count)) (x .entry-columns .ensures .ids ∙ counted-ids (s .args .entries) (s .args .count) (few k)))
 
 pub list-sound-spec : {M : Type 1} → statement M
@@ -87,6 +98,7 @@ list-sound-spec =
     returns
     phase-fits-requires
     returns-2
+    returns-3
     entry-columns-requires
     processed-as-listed-requires
-    returns-3)
+    returns-4)

@@ -25,9 +25,11 @@ use Rattle.rows.proofs.ThenLaws.{then-cases-cluster-columns}
 use Rattle.clusters.specs.declared.cluster.Need.{Need}
 use Rattle.clusters.specs.Cluster.{Cluster, needsMost}
 use Rattle.clusters.specs.Table.{Table, clustersMost, tableWithin}
+use Rattle.cluster_list.specs.declared.value_line.LineSays.{LineSays}
+use Rattle.cluster_list.specs.declared.value_line.LineSays.the-variants as says
 use Rattle.cluster_list.specs.Cells.{partField, needFields}
 use Rattle.cluster_list.specs.Mark.{markField, noMark}
-use Rattle.cluster_list.specs.Read.{lastPart, clusterAdded, needAdded, needLine, clusterBegun, clusterLine, valueLine, valueLines, readList}
+use Rattle.cluster_list.specs.Read.{lastPart, clusterAdded, needAdded, needLine, clusterBegun, clusterLine, lineAdded, valueLine, valueLines, readList}
 use Rattle.cluster_list.specs.Write.{fourNames, listText}
 use Rattle.cluster_list.specs.FourNames.{unmarked, noMarks}
 use Rattle.cluster_list.proofs.ThenLaws.{then-cases-need, then-cases-filled}
@@ -67,23 +69,27 @@ abbrev four : ClusterColumns → ListColumns
 four c = record { «cluster_columns» = c; stays = Missing }
 
 module _ (c : ClusterColumns) (l : List ℕ) (t : Table) (h : noMarks t ≡ true) where
-  need-line-unmarked : Unmarked (needLine (four c) l t)
+  -- the table with a line added has all marks 0
+  abbrev UnmarkedWith : LineSays → Type 0
+  UnmarkedWith line = Unmarked (lineAdded t line)
+
+  need-line-unmarked : UnmarkedWith (needLine (four c) l)
   unfolding needLine noMark
   need-line-unmarked =
-      then-cases-need Unmarked none (needFields c l) _ tt λ need next e.
-      then-cases-filled Unmarked none need _ tt λ n f. need-unmarked t n h
+      then-cases-need UnmarkedWith says.IllFormed (needFields c l) _ tt λ need next e.
+      then-cases-filled UnmarkedWith says.IllFormed need _ tt λ n f. need-unmarked t n h
 
-  cluster-line-unmarked : Unmarked (clusterLine (four c) l t)
+  cluster-line-unmarked : UnmarkedWith (clusterLine (four c) l)
   unfolding clusterLine clusterBegun markField
   cluster-line-unmarked =
-      then-cases Unmarked none (partField (cell (c .cluster) l)) _ tt λ part behind e.
-      then-cases-version Unmarked none (wholeVersion (cell (c .version) l)) _ tt λ version next f.
-      then-cases-need Unmarked none (needFields c l) _ tt λ need after g. cluster-unmarked t _ h refl
+      then-cases UnmarkedWith says.IllFormed (partField (cell (c .cluster) l)) _ tt λ part behind e.
+      then-cases-version UnmarkedWith says.IllFormed (wholeVersion (cell (c .version) l)) _ tt λ version next f.
+      then-cases-need UnmarkedWith says.IllFormed (needFields c l) _ tt λ need after g. cluster-unmarked t _ h refl
 
   value-line-unmarked : Unmarked (valueLine (four c) l t)
   unfolding valueLine
   value-line-unmarked =
-      cond-cases Unmarked (isEmpty (cell (c .cluster) l) && isEmpty (cell (c .version) l)) _ _
+      cond-cases UnmarkedWith (isEmpty (cell (c .cluster) l) && isEmpty (cell (c .version) l)) _ _
       (λ _. need-line-unmarked) λ _. cluster-line-unmarked
 
 list-unmarked : (s : List ℕ) (next : Cursor) → lineFrom 3 0 s ≡ Ends next → Unmarked (readList s)

@@ -1,6 +1,6 @@
--- The last cluster of a table: its part number, and a need added to it. Assumes nothing.
+-- The last cluster of a table: which it is, its part number, and a need added to it. Assumes nothing.
 use Prim.Native.Nat.{_≤_, _<_}
-use mathlib.Core.Path.{_≡_, refl}
+use mathlib.Core.Path.{_≡_, refl, ap}
 use mathlib.Core.List.{[], _∷_, _++_}
 use mathlib.Core.Option.{none, some}
 use lib.ListN.{length}
@@ -8,13 +8,16 @@ use borrow.Author.Tests.{lt-leb, le-leb}
 use Rattle.clusters.specs.declared.cluster.Need.{Need}
 use Rattle.clusters.specs.Cluster.{Cluster, withNeed, needsMost}
 use Rattle.clusters.specs.Table.{Table, clustersMost}
-use Rattle.cluster_list.specs.Read.{lastPart, needAdded, clusterAdded}
+use Rattle.cluster_list.specs.Read.{lastCluster, lastPart, needAdded, clusterAdded}
+
+pub last-cluster : (front : Table) (c : Cluster) → lastCluster (front ++ c ∷ []) ≡ c
+last-cluster [] c = refl
+last-cluster (d ∷ []) c = refl
+last-cluster (d ∷ e ∷ front) c = last-cluster (e ∷ front) c
 
 pub last-part : (front : Table) (c : Cluster) → lastPart (front ++ c ∷ []) ≡ c .part
 unfolding lastPart
-last-part [] c = refl
-last-part (d ∷ []) c = refl
-last-part (d ∷ e ∷ front) c = last-part (e ∷ front) c
+last-part front c = ap (λ (d : Cluster). d .part) (last-cluster front c)
 
 module _ (c : Cluster) (n : Need) where
   pub need-added : (front : Table) → length (c .needs) < needsMost → needAdded (front ++ c ∷ []) n ≡ some (front ++ withNeed c n ∷ [])

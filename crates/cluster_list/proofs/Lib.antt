@@ -7,7 +7,7 @@ pub mod CellsWithin
 pub mod Within
 pub mod FourNames
 pub mod Lengths
-pub mod Built
+pub mod EndLaws
 pub mod ReadLaws
 pub mod LineLength
 pub mod ReadLengths

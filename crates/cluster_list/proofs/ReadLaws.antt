@@ -1,22 +1,21 @@
--- What the definitions of reading give, for each way that the code takes: chains of `let .. else`, the lines of both kinds, and one
--- line after the other. x, y, r are calls' results. Assumes nothing.
+-- What the definitions of reading give, for each way that the code takes: the fields of a line, the lines of both kinds, and one line
+-- after the other. x, y, r are calls' results. Assumes nothing.
 use Prim.Native.Nat.{ℕ, zero, suc, _+_, _-_, _≤_, _<_}
 use mathlib.Core.Path.{_≡_, refl, sym, ap, subst, _∙_}
-use mathlib.Core.Bool.{Bool, true, false, not, cond}
+use mathlib.Core.Bool.{Bool, true, cond}
 use mathlib.Core.List.{List, []}
 use mathlib.Core.Option.{Option, none, some}
 use native.Mathlib.Omega.{arith}
-use lib.ListN.{length, drop}
+use lib.ListN.{length, drop, set, length-set}
 use lib.Dec.{leb}
-use borrow.Author.Tests.{le-leb, lt-leb, not-true, not-false}
+use borrow.Author.Tests.{le-leb, lt-leb}
+use Rattle.base.proofs.Ladder.{told-ladder}
 use Rattle.text.specs.declared.cursor.Cursor.{Cursor}
 use Rattle.text.specs.declared.number.Number.{Number}
-use Rattle.text.specs.declared.number.Number.the-variants as number
 use Rattle.text.specs.declared.version.Version.{Version}
 use Rattle.text.specs.declared.version.VersionRead.{VersionRead}
-use Rattle.text.specs.declared.version.VersionRead.the-variants as version
 use Rattle.text.specs.Version.{wholeVersion}
-use Rattle.text.specs.Then.{andThen, andThenVersion}
+use Rattle.text.proofs.ThenLaws.{chain}
 use Rattle.rows.specs.declared.line.Line.{Line}
 use Rattle.rows.specs.declared.line.Line.the-variants as line
 use Rattle.rows.specs.declared.list_columns.ListColumns.{ListColumns}
@@ -26,67 +25,29 @@ use Rattle.rows.specs.Field.{cell}
 use Rattle.rows.specs.Line.{lineFrom, andThenLine}
 use Rattle.rows.specs.ListColumns.{andThenListColumns}
 use Rattle.rows.proofs.LineBounds.{line-at-after}
-use Rattle.clusters.specs.declared.cluster.Need.{Need}
 use Rattle.clusters.specs.declared.cluster.Cluster.{Cluster as ClusterStruct}
 use Rattle.clusters.specs.declared.table.Table.{Table as TableStruct}
-use Rattle.clusters.specs.Cluster.{Cluster, cluster, markedCluster}
+use Rattle.clusters.specs.Cluster.{cluster, markedCluster}
 use Rattle.clusters.specs.Table.{Table, risingAbove, tableWithin}
-use Rattle.clusters.specs.View.{viewCluster, viewTable}
 use Rattle.clusters.specs.Struct.{structCluster, structTable}
 use Rattle.clusters.specs.Exact.{emptyTable, withMark}
-use Rattle.clusters.proofs.Structs.{struct-empty, struct-with-mark, view-struct-cluster, view-struct}
+use Rattle.clusters.proofs.Limits.{few-clusters}
+use Rattle.clusters.proofs.Arrays.{set-put}
+use Rattle.clusters.proofs.Structs.{struct-empty, struct-with-mark}
 use Rattle.cluster_list.specs.declared.cells.OptionalNeed.{OptionalNeed}
-use Rattle.cluster_list.specs.declared.cells.OptionalNeed.the-variants as optional
-use Rattle.cluster_list.specs.declared.cells.NeedRead.{NeedRead}
-use Rattle.cluster_list.specs.declared.cells.NeedRead.the-variants as need
+use Rattle.cluster_list.specs.declared.value_line.LineSays.{LineSays}
+use Rattle.cluster_list.specs.declared.adding.TableEnd.{TableEnd}
 use Rattle.cluster_list.specs.declared.read.ListRead.{ListRead}
-use Rattle.cluster_list.specs.declared.read.ListAnswer.the-variants.{WellFormed, IllFormed}
-use Rattle.cluster_list.specs.Cells.{partField, andThenNeed, andThenFilled, needsFilled}
-use Rattle.cluster_list.specs.Mark.{commasOf, noMark}
-use Rattle.cluster_list.specs.Read.{andThenSome, clusterAdded, needLine, clusterLine, valueLine, valueLines, listRead, Built}
+use Rattle.cluster_list.specs.declared.read.ListAnswer.the-variants.{WellFormed}
+use Rattle.cluster_list.specs.Cells.{partField, needsFilled}
+use Rattle.cluster_list.specs.Mark.{commasOf}
+use Rattle.cluster_list.specs.Read.{andThenSome, needLine, clusterLine, lineSays, lineAdded, valueLine, valueLines, listRead, endOf, endRead}
 use Rattle.rows.proofs.Empty.{no-byte, some-byte}
-use Rattle.cluster_list.proofs.Within.{Within, value-line-within}
-use Rattle.cluster_list.proofs.Built.{built-struct}
-use Rattle.cluster_list.proofs.FirstNeed.{few-filled}
+use Rattle.cluster_list.proofs.ThenLaws.{need-chain}
+use Rattle.cluster_list.proofs.Within.{Such, value-line-within}
+use Rattle.cluster_list.proofs.EndLaws.{Grown, line-grows}
 
--- ---- chains
-
-module _ (r : ListRead) where
-  module _ (x y : Number) (f : ℕ → Cursor → Option Table) (e : x ≡ y) where
-    pub read-stop : x ≡ number.IllFormed → r ≡ listRead none → r ≡ listRead (andThen none y f)
-    read-stop h g = rw (← e, h) g
-
-    pub read-on : (n : ℕ) (next : Cursor) → x ≡ number.Value n next → r ≡ listRead (f n next) → r ≡ listRead (andThen none y f)
-    read-on n next h g = rw (← e, h) g
-
-  module _ (x y : VersionRead) (f : Version → Cursor → Option Table) (e : x ≡ y) where
-    pub read-stop-version : x ≡ version.IllFormed → r ≡ listRead none → r ≡ listRead (andThenVersion none y f)
-    read-stop-version h g = rw (← e, h) g
-
-    pub read-on-version : (v : Version) (next : Cursor) → x ≡ version.Value v next → r ≡ listRead (f v next) → r ≡ listRead (andThenVersion none y f)
-    read-on-version v next h g = rw (← e, h) g
-
-  module _ (x y : NeedRead) (f : OptionalNeed → Cursor → Option Table) (e : x ≡ y) where
-    pub read-stop-need : x ≡ need.IllFormed → r ≡ listRead none → r ≡ listRead (andThenNeed none y f)
-    read-stop-need h g = rw (← e, h) g
-
-    pub read-on-need : (n : OptionalNeed) (next : Cursor) → x ≡ need.Value n next → r ≡ listRead (f n next) → r ≡ listRead (andThenNeed none y f)
-    read-on-need n next h g = rw (← e, h) g
-
-  module _ (n : OptionalNeed) (f : Need → Option Table) where
-    pub read-empty : n ≡ optional.Empty → r ≡ listRead none → r ≡ listRead (andThenFilled none n f)
-    read-empty h g = rw h g
-
-    pub read-filled : (m : Need) → n ≡ optional.Filled m → r ≡ listRead (f m) → r ≡ listRead (andThenFilled none n f)
-    read-filled m h g = rw h g
-
-  module _ (x y : ListColumnsRead) (f : ListColumns → ℕ → Option Table) (e : x ≡ y) where
-    pub read-stop-columns : x ≡ list-read.IllFormed → r ≡ listRead none → r ≡ listRead (andThenListColumns none y f)
-    read-stop-columns h g = rw (← e, h) g
-
-    pub read-on-columns : (columns : ListColumns) (next : Cursor) → x ≡ list-read.Named columns next → r ≡ listRead (f columns (next .at))
-        → r ≡ listRead (andThenListColumns none y f)
-    read-on-columns columns next h g = rw (← e, h) g
+-- ---- the fields of a line
 
 -- a reader of a field that is part of a text
 pub part-of-cell : (x : Number) (w v : List ℕ) → x ≡ partField w → w ≡ v → x ≡ partField v
@@ -95,67 +56,40 @@ part-of-cell x w v e f = e ∙ ap partField f
 pub version-of-cell : (x : VersionRead) (w v : List ℕ) → x ≡ wholeVersion w → w ≡ v → x ≡ wholeVersion v
 version-of-cell x w v e f = e ∙ ap wholeVersion f
 
--- ---- a cluster with its first need or without one, and the mark of its line
+pub ruleset field-chain = (chain, need-chain, told-ladder, part-of-cell, version-of-cell)
 
--- x without the mark, y with it
+-- the cluster of a line's fields: x without the mark, y with it
 pub marked : (part : ℕ) (version : Version) (need : OptionalNeed) (mark : Bool) (x y : ClusterStruct)
     → x ≡ structCluster (cluster part version (needsFilled need)) → y ≡ withMark x mark → y ≡ structCluster (markedCluster part version (needsFilled need) mark)
 marked part version need mark x y e q =
     q ∙ ap (λ (c : ClusterStruct). withMark c mark) e ∙ struct-with-mark (cluster part version (needsFilled need)) mark
 
-module _ (part : ℕ) (version : Version) (need : OptionalNeed) (mark : Bool) (y : ClusterStruct)
-    (e : y ≡ structCluster (markedCluster part version (needsFilled need) mark)) where
-  begun-view : viewCluster y ≡ markedCluster part version (needsFilled need) mark
-  begun-view = ap viewCluster e ∙ view-struct-cluster (markedCluster part version (needsFilled need) mark) (omega (arith, few-filled need))
+-- ---- a line of either kind
 
-  pub begun-built : y ≡ structCluster (viewCluster y)
-  begun-built = e ∙ ap structCluster (sym begun-view)
-
-  pub begun : (r : ListRead) (t : Table) → r ≡ listRead (clusterAdded t (viewCluster y))
-      → r ≡ listRead (clusterAdded t (markedCluster part version (needsFilled need) mark))
-  begun r t f = f ∙ ap (λ (c : Cluster). listRead (clusterAdded t c)) begun-view
-
--- ---- a need line leaves the mark empty: b is what `no_mark` answers
-
-module _ (columns : ListColumns) (l : List ℕ) (r : ListRead) (whole : Option Table) (b : Bool) (e : b ≡ noMark (columns .stays) l) where
-  pub marked-need : not b ≡ true → r ≡ listRead none → r ≡ listRead (cond (noMark (columns .stays) l) whole none)
-  marked-need h g = rw (← e, not-true b h) g
-
-  pub unmarked-need : not b ≡ false → r ≡ listRead whole → r ≡ listRead (cond (noMark (columns .stays) l) whole none)
-  unmarked-need h g = rw (← e, not-false b h) g
-
--- ---- the two kinds of line: w and v are the fields cluster and version
-
-module _ (columns : ListColumns) (l : List ℕ) (t : Table) (r : ListRead) (w : List ℕ) (e : w ≡ cell (columns .«cluster_columns» .cluster) l) where
-  pub by-cluster : 1 ≤ length w → r ≡ listRead (clusterLine columns l t) → r ≡ listRead (valueLine columns l t)
-  unfolding valueLine
+module _ (columns : ListColumns) (l : List ℕ) (r : LineSays) (w : List ℕ) (e : w ≡ cell (columns .«cluster_columns» .cluster) l) where
+  pub by-cluster : 1 ≤ length w → r ≡ clusterLine columns l → r ≡ lineSays columns l
   by-cluster h g = rw (← e, some-byte w h) g
 
   module _ (v : List ℕ) (d : v ≡ cell (columns .«cluster_columns» .version) l) (h : length w < 1) where
-    pub by-version : 1 ≤ length v → r ≡ listRead (clusterLine columns l t) → r ≡ listRead (valueLine columns l t)
-    unfolding valueLine
+    pub by-version : 1 ≤ length v → r ≡ clusterLine columns l → r ≡ lineSays columns l
     by-version o g = rw (← e, ← d, no-byte w h, some-byte v o) g
 
-    pub by-neither : length v < 1 → r ≡ listRead (needLine columns l t) → r ≡ listRead (valueLine columns l t)
-    unfolding valueLine
+    pub by-neither : length v < 1 → r ≡ needLine columns l → r ≡ lineSays columns l
     by-neither o g = rw (← e, ← d, no-byte w h, no-byte v o) g
 
-pub ruleset read-chain = (marked-need, unmarked-need, read-stop, read-on, read-stop-version, read-on-version, read-stop-need, read-on-need, read-empty, read-filled, read-stop-columns, read-on-columns, part-of-cell, version-of-cell)
+-- ---- the columns, and then the lines
+
+module _ (r : ListRead) (x y : ListColumnsRead) (f : ListColumns → ℕ → Option Table) (e : x ≡ y) where
+  pub read-stop-columns : x ≡ list-read.IllFormed → r ≡ listRead none → r ≡ listRead (andThenListColumns none y f)
+  read-stop-columns h g = rw (← e, h) g
+
+  pub read-on-columns : (columns : ListColumns) (next : Cursor) → x ≡ list-read.Named columns next → r ≡ listRead (f columns (next .at))
+      → r ≡ listRead (andThenListColumns none y f)
+  read-on-columns columns next h g = rw (← e, h) g
+
+pub ruleset columns-chain = (read-stop-columns, read-on-columns)
 
 -- ---- one line after the other
-
--- what an answer tells of what was read
-well-read : (r : ListRead) (y : Option Table) → r ≡ listRead y → r .answer ≡ WellFormed → Within y → (y ≡ some (viewTable (r .table))) × Built (r .table)
-unfolding listRead
-well-read r none e h w = absurd (let z : _≡_ {A = ℕ} 0 1 = cc in omega arith)
-well-read r (some t) e h w =
-    let table : r .table ≡ structTable t = ap (λ (x : ListRead). x .table) e in
-    (ap some (sym (ap viewTable table ∙ view-struct t w)), subst Built (sym table) (built-struct t w))
-
-ill-read : (r : ListRead) (y : Option Table) → r ≡ listRead y → r .answer ≡ IllFormed → y ≡ none
-unfolding listRead
-ill-read r none e h = refl
-ill-read r (some t) e h = absurd (let z : _≡_ {A = ℕ} 0 1 = cc in omega arith)
 
 -- as many steps as the text has bytes behind a position are enough, and more give the same
 steps-over : (steps : ℕ) (columns : ListColumns) (s : List ℕ) (at : ℕ) (t : Table) → length s ≤ at → valueLines steps columns s at t ≡ some t
@@ -205,48 +139,105 @@ module _ (columns : ListColumns) (s : List ℕ) (at : ℕ) (t : Table) where
         pub lines-on : (u : Table) → valueLine columns (drop at s) t ≡ some u → whole ≡ valueLines (length s) columns s (next .at) u
         lines-on u g = q ∙ lines-step h ∙ rw (← e, f, g)
 
--- how far the code has read the lines from a position `from`: the lines from `at` on are left, after those of the table
-pub record Reading (s : List ℕ) (columns : ListColumns) (commas from : ℕ) (table : TableStruct) (at : ℕ) : Type 0 where
-  pub fields : commas ≡ commasOf (columns .stays)
-  pub built : Built table
-  pub rest : valueLines (length s) columns s from [] ≡ valueLines (length s) columns s at (viewTable table)
+-- what the end with a line added tells: there is a cluster where there is a table
+none-added : (r : TableEnd) (y : Option Table) (t : Table) → r ≡ endRead y → Such (Grown t) y → r .count < 1 → y ≡ none
+unfolding endOf
+none-added r none t e g h = refl
+none-added r (some u) t e g h = absurd (omega (arith, ap (λ (x : TableEnd). x .count) e, g .some-there))
 
-pub reading-begins : (s : List ℕ) (columns : ListColumns) (commas from : ℕ) (table : TableStruct) → commas ≡ commasOf (columns .stays) → table ≡ emptyTable
-    → Reading s columns commas from table from
-reading-begins s columns commas from table q e =
-    let struct : table ≡ structTable [] = e ∙ struct-empty in
+record Added (y : Option Table) (r : TableEnd) : Type 0 where
+  table : Table
+  is : y ≡ some table
+  end : r ≡ endOf table
+
+some-added : (r : TableEnd) (y : Option Table) → r ≡ endRead y → 1 ≤ r .count → Added y r
+unfolding endOf
+some-added r none e h = absurd (omega (arith, ap (λ (x : TableEnd). x .count) e))
+some-added r (some t) e h = record { table = t; is = refl; end = e }
+
+-- how far the code has read the lines from a position `from`: the lines from `at` on are left, after those of the table, whose clusters
+-- stand in the array
+pub record Reading (s : List ℕ) (columns : ListColumns) (commas from : ℕ) (clusters : List ClusterStruct) (end : TableEnd) (at : ℕ) : Type 0 where
+  pub fields : commas ≡ commasOf (columns .stays)
+  pub table : Table
+  pub within : tableWithin table ≡ true
+  pub array : clusters ≡ structTable table .clusters
+  pub room : length clusters ≡ 64
+  pub ends : end ≡ endOf table
+  pub rest : valueLines (length s) columns s from [] ≡ valueLines (length s) columns s at table
+
+pub reading-begins : (s : List ℕ) (columns : ListColumns) (commas from : ℕ) (empty : TableStruct) (end : TableEnd)
+    → commas ≡ commasOf (columns .stays) → empty ≡ emptyTable → end ≡ endOf [] → Reading s columns commas from (empty .clusters) end from
+reading-begins s columns commas from empty end q e f =
     record {
       fields = q;
-      built = subst Built (sym struct) (built-struct [] (unfold tableWithin risingAbove in refl));
-      rest = ap (valueLines (length s) columns s from) (sym (ap viewTable struct ∙ view-struct [] (unfold tableWithin risingAbove in refl)));
+      table = [];
+      within = unfold tableWithin risingAbove in refl;
+      array = ap (λ (t : TableStruct). t .clusters) (e ∙ struct-empty);
+      room = ap (λ (t : TableStruct). length (t .clusters)) e ∙ (unfold emptyTable in refl);
+      ends = f;
+      rest = refl;
     }
 
-module _ (s : List ℕ) (columns : ListColumns) (commas from : ℕ) (table : TableStruct) (at : ℕ) (b : Reading s columns commas from table at) where
-  pub reading-over : length s ≤ at → record { answer = WellFormed; table = table } ≡ listRead (valueLines (length s) columns s from [])
-  unfolding listRead
-  reading-over h = rw (lines-over columns s at (viewTable table) _ (b .rest) h, ← b .built .cleared)
+module _ (s : List ℕ) (columns : ListColumns) (commas from : ℕ) (clusters : List ClusterStruct) (end : TableEnd) (at : ℕ)
+    (b : Reading s columns commas from clusters end at) where
+  pub reading-over : length s ≤ at
+      → record { answer = WellFormed; table = record { clusters = clusters; count = end .count } } ≡ listRead (valueLines (length s) columns s from [])
+  unfolding listRead structTable endOf
+  reading-over h = rw (lines-over columns s at (b .table) _ (b .rest) h, b .array, b .ends)
 
   module _ (x : Line) (h : at < length s) (f : x ≡ lineFrom commas at (drop at s)) where
     line-read : x ≡ lineFrom (commasOf (columns .stays)) at (drop at s)
     line-read = f ∙ ap (λ (n : ℕ). lineFrom n at (drop at s)) (b .fields)
 
     pub reading-no-line : (r : ListRead) → x ≡ line.IllFormed → r ≡ listRead none → r ≡ listRead (valueLines (length s) columns s from [])
-    reading-no-line r g i = rw (lines-no-line columns s at (viewTable table) _ (b .rest) x h line-read g) i
+    reading-no-line r g i = rw (lines-no-line columns s at (b .table) _ (b .rest) x h line-read g) i
 
     module _ (next : Cursor) (ends : x ≡ line.Ends next) where
       pub reading-less : length s - next .at < length s - at
       reading-less = omega (arith, line-at-after s (commasOf (columns .stays)) at x next line-read ends)
 
-      module _ (r : ListRead) (g : r ≡ listRead (valueLine columns (drop at s) (viewTable table))) where
-        pub reading-no-value : (i : ListRead) → r .answer ≡ IllFormed → i ≡ listRead none → i ≡ listRead (valueLines (length s) columns s from [])
-        reading-no-value i o d =
-            rw (lines-no-value columns s at (viewTable table) _ (b .rest) x h line-read next ends (ill-read r _ g o)) d
+      -- what the line says, and the end with the line added
+      module _ (says : LineSays) (said : says ≡ lineSays columns (drop at s)) (r : TableEnd)
+          (adds : (t : Table) → end ≡ endOf t → r ≡ endRead (lineAdded t says)) where
+        abbrev longer : Option Table
+        longer = lineAdded (b .table) (lineSays columns (drop at s))
 
-        pub reading-on : r .answer ≡ WellFormed → Reading s columns commas from (r .table) (next .at)
-        reading-on o =
-            let found = well-read r _ g o (value-line-within columns (drop at s) (viewTable table) (b .built .within)) in
-            record {
-              fields = b .fields;
-              built = found .1;
-              rest = lines-on columns s at (viewTable table) _ (b .rest) x h line-read next ends (viewTable (r .table)) (found .0);
-            }
+        longer-end : r ≡ endRead longer
+        longer-end = adds (b .table) (b .ends) ∙ ap (λ (x : LineSays). endRead (lineAdded (b .table) x)) said
+
+        grows : Such (Grown (b .table)) longer
+        grows = line-grows (b .table) (lineSays columns (drop at s))
+
+        pub reading-no-value : (i : ListRead) → r .count < 1 → i ≡ listRead none → i ≡ listRead (valueLines (length s) columns s from [])
+        reading-no-value i o d =
+            rw (lines-no-value columns s at (b .table) _ (b .rest) x h line-read next ends
+            (unfold valueLine in none-added r longer (b .table) longer-end grows o)) d
+
+        module _ (o : 1 ≤ r .count) where
+          found : Added longer r
+          found = some-added r longer longer-end o
+
+          now-within : tableWithin (found .table) ≡ true
+          unfolding valueLine
+          now-within = subst (Such λ t. tableWithin t ≡ true) (found .is) (value-line-within columns (drop at s) (b .table) (b .within))
+
+          -- the place of the cluster is in the array
+          pub reading-place : r .count ≤ 64
+          unfolding endOf
+          reading-place = rw (found .end) (few-clusters (found .table) now-within)
+
+          pub reading-on : Reading s columns commas from (set clusters (r .count - 1) (r .last)) r (next .at)
+          reading-on =
+              record {
+                fields = b .fields;
+                table = found .table;
+                within = now-within;
+                array = stands (found .table) (subst (Such (Grown (b .table))) (found .is) grows) (found .end);
+                room = length-set clusters (r .count - 1) (r .last) ∙ b .room;
+                ends = found .end;
+                rest = lines-on columns s at (b .table) _ (b .rest) x h line-read next ends (found .table) (unfold valueLine in found .is);
+              }
+            where
+              stands : (u : Table) → Grown (b .table) u → r ≡ endOf u → set clusters (r .count - 1) (r .last) ≡ structTable u .clusters
+              stands u g q = set-put clusters (r .count - 1) (r .last) (omega (arith, b .room, reading-place)) ∙ rw (b .array, q) (unfold endOf in g .put)

@@ -39,9 +39,11 @@ use Rattle.clusters.proofs.Limits.{rising-says, few-clusters, rising-clusters, 
 use Rattle.cluster_list.specs.declared.cells.OptionalNeed.{OptionalNeed}
 use Rattle.cluster_list.specs.declared.cells.NeedRead.{NeedRead}
 use Rattle.cluster_list.specs.declared.cells.NeedRead.the-variants as need
+use Rattle.cluster_list.specs.declared.value_line.LineSays.{LineSays}
+use Rattle.cluster_list.specs.declared.value_line.LineSays.the-variants as says
 use Rattle.cluster_list.specs.Cells.{partField, needOf, needFields, needsFilled}
 use Rattle.cluster_list.specs.Mark.{commasOf, markField, noMark}
-use Rattle.cluster_list.specs.Read.{lastPart, clusterAdded, needAdded, needLine, clusterBegun, clusterLine, valueLine, valueLines, readList, readListMost}
+use Rattle.cluster_list.specs.Read.{lastPart, clusterAdded, needAdded, needLine, clusterBegun, clusterLine, lineAdded, valueLine, valueLines, readList, readListMost}
 use Rattle.cluster_list.proofs.ThenLaws.{then-cases-need, then-cases-filled}
 use Rattle.cluster_list.proofs.FirstNeed.{few-filled}
 use Rattle.cluster_list.proofs.Within.{then-cases-some, readList-within}
@@ -146,22 +148,26 @@ module _ (columns : ListColumns) (l : List ℕ) (t : Table) where
   needs-fields read next e =
       subst (ShortNeed (cell (four .needs) l) (cell (four .least) l)) e (need-short (cell (four .needs) l) (cell (four .least) l))
 
-  need-line-adds : length (cell (four .cluster) l) + length (cell (four .version) l) ≡ 0 → Adds size t (needLine columns l t)
+  -- the line has at most the room for what is added
+  abbrev AddsWith : LineSays → Type 0
+  AddsWith line = Adds size t (lineAdded t line)
+
+  need-line-adds : length (cell (four .cluster) l) + length (cell (four .version) l) ≡ 0 → AddsWith (needLine columns l)
   unfolding needLine
   need-line-adds z =
-      cond-cases (Adds size t) (noMark (columns .stays) l) _ _
-      (λ m. then-cases-need (Adds size t) none (needFields four l) _ tt λ read next e.
-      then-cases-filled (Adds size t) none read _ tt λ n f.
+      cond-cases AddsWith (noMark (columns .stays) l) _ _
+      (λ m. then-cases-need AddsWith says.IllFormed (needFields four l) _ tt λ read next e.
+      then-cases-filled AddsWith says.IllFormed read _ tt λ n f.
       need-adds size t n (omega (arith, no-mark-short four (columns .stays) l m, needs-fields read next e, few-filled read)))
       λ _. tt
 
-  cluster-line-adds : Adds size t (clusterLine columns l t)
+  cluster-line-adds : AddsWith (clusterLine columns l)
   unfolding clusterLine clusterBegun
   cluster-line-adds =
-      then-cases (Adds size t) none (partField (cell (four .cluster) l)) _ tt λ part behind e.
-      then-cases-version (Adds size t) none (wholeVersion (cell (four .version) l)) _ tt λ version next f.
-      then-cases-need (Adds size t) none (needFields four l) _ tt λ read after g.
-      then-cases (Adds size t) none (markField (columns .stays) l) _ tt λ mark last m.
+      then-cases AddsWith says.IllFormed (partField (cell (four .cluster) l)) _ tt λ part behind e.
+      then-cases-version AddsWith says.IllFormed (wholeVersion (cell (four .version) l)) _ tt λ version next f.
+      then-cases-need AddsWith says.IllFormed (needFields four l) _ tt λ read after g.
+      then-cases AddsWith says.IllFormed (markField (columns .stays) l) _ tt λ mark last m.
       cluster-adds size t _
       (omega (
         arith,
@@ -176,7 +182,7 @@ module _ (columns : ListColumns) (l : List ℕ) (t : Table) where
   value-line-adds =
       let a = isEmpty (cell (four .cluster) l) in
       let b = isEmpty (cell (four .version) l) in
-      cond-cases (Adds size t) (a && b) _ _
+      cond-cases AddsWith (a && b) _ _
       (λ h. need-line-adds (omega (arith, empty-length (cell (four .cluster) l) (and-left a b h), empty-length (cell (four .version) l) (and-right a b h))))
       λ _. cluster-line-adds
 

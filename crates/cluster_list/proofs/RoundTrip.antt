@@ -6,7 +6,7 @@ use Prim.Native.Nat.{ℕ, zero, suc, _+_, _≤_, _<_}
 use mathlib.Core.Path.{_≡_, refl, ap, _∙_}
 use mathlib.Core.Bool.{Bool, true, false}
 use mathlib.Core.List.{List, [], _∷_, _++_, append-assoc, append-nil}
-use mathlib.Core.Option.{Option, none, some}
+use mathlib.Core.Option.{Option, some}
 use native.Mathlib.Omega.{arith}
 use lib.Dec.{eqb, leb}
 use lib.ListN.{length, take, drop, getD, length-take, length-drop, length-append, take-append-drop}
@@ -46,7 +46,9 @@ use Rattle.cluster_list.specs.declared.cells.OptionalNeed.the-variants.{
 use Rattle.cluster_list.specs.declared.cells.NeedRead.the-variants as need
 use Rattle.cluster_list.specs.Cells.{partField, needOf, needsFilled}
 use Rattle.cluster_list.specs.Mark.{commasOf, markField, noMark}
-use Rattle.cluster_list.specs.Read.{lastPart, needAdded, clusterAdded, needLine, clusterBegun, clusterLine, valueLine, valueLines, readList}
+use Rattle.cluster_list.specs.declared.value_line.LineSays.{LineSays}
+use Rattle.cluster_list.specs.declared.value_line.LineSays.the-variants as says
+use Rattle.cluster_list.specs.Read.{lastPart, needAdded, clusterAdded, needLine, clusterBegun, clusterLine, lineAdded, valueLine, valueLines, readList}
 use Rattle.cluster_list.specs.Write.{Form, fourNames, fiveNames, lineIn, namesLine, markText, needCells, needLineText, needLinesText}
 use Rattle.cluster_list.specs.Write.{clusterLines, clustersText, listText, writeList}
 use Rattle.cluster_list.specs.FourNames.{unmarked, asRead}
@@ -133,15 +135,15 @@ unfolding noMark
 no-mark-back fourNames l e = refl
 no-mark-back fiveNames l e = rw e
 
-mark-text-back : (stays : Bool) (l : List ℕ) → cell 4 l ≡ markText stays → (f : Bool → Option Table)
-    → (andThen none (markField (staysIn fiveNames) l) λ mark _. f (eqb mark 1)) ≡ f stays
+mark-text-back : (stays : Bool) (l : List ℕ) → cell 4 l ≡ markText stays → (f : Bool → LineSays)
+    → (andThen says.IllFormed (markField (staysIn fiveNames) l) λ mark _. f (eqb mark 1)) ≡ f stays
 unfolding markField computing
 mark-text-back false l e f = rw e
 mark-text-back true l e f = rw e
 
 -- what follows the mark follows that of the cluster, or 0 where the form has none
-mark-back : (form : Form) (stays : Bool) (l : List ℕ) → MarkCell form (markText stays) l → (f : Bool → Option Table)
-    → (andThen none (markField (staysIn form) l) λ mark _. f (eqb mark 1)) ≡ f (markIn form stays)
+mark-back : (form : Form) (stays : Bool) (l : List ℕ) → MarkCell form (markText stays) l → (f : Bool → LineSays)
+    → (andThen says.IllFormed (markField (staysIn form) l) λ mark _. f (eqb mark 1)) ≡ f (markIn form stays)
 unfolding markField
 mark-back fourNames stays l e f = refl
 mark-back fiveNames stays l e f = mark-text-back stays l e f
@@ -179,7 +181,7 @@ module _ (form : Form) (l : List ℕ) (t : Table) where
         whole-version-back version w,
         n,
       )
-      (mark-back form stays l (fields .last) λ b. clusterAdded t (markedCluster part version (needsFilled read) b))
+      (ap (lineAdded t) (mark-back form stays l (fields .last) λ b. says.Begins part version read b))
 
 -- ---- a line that stands in a text, and then the lines behind it
 

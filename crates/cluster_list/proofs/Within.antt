@@ -24,9 +24,11 @@ use Rattle.clusters.proofs.Limits.{rising-says, rising-is, few-clusters, rising
 use Rattle.clusters.specs.View.{viewTable}
 use Rattle.clusters.proofs.Structs.{view-struct}
 use Rattle.cluster_list.specs.declared.read.ListRead.{ListRead}
+use Rattle.cluster_list.specs.declared.value_line.LineSays.{LineSays}
+use Rattle.cluster_list.specs.declared.value_line.LineSays.the-variants as says
 use Rattle.cluster_list.specs.Cells.{partField, needFields, needsFilled}
 use Rattle.cluster_list.specs.Mark.{commasOf, markField, noMark}
-use Rattle.cluster_list.specs.Read.{andThenSome, lastPart, clusterAdded, needAdded, needLine, clusterBegun, clusterLine, valueLine, valueLines, readList, listRead, tableRead}
+use Rattle.cluster_list.specs.Read.{andThenSome, lastPart, clusterAdded, needAdded, needLine, clusterBegun, clusterLine, lineAdded, valueLine, valueLines, readList, listRead, tableRead}
 use Rattle.cluster_list.proofs.ThenLaws.{then-cases-need, then-cases-filled}
 use Rattle.cluster_list.proofs.FirstNeed.{few-filled}
 use Rattle.cluster_list.proofs.CellsWithin.{part-read-within, needs-read-within, need-read-within}
@@ -127,26 +129,30 @@ need-added-within t n h k = go (needAdded t n) (need-added-rises 0 t n (rising-c
     go (some u) w = table-is-within u (rw (w .1) (few-clusters t h)) (w .0)
 
 module _ (columns : ListColumns) (l : List ℕ) (t : Table) (h : tableWithin t ≡ true) where
-  need-line-within : Within (needLine columns l t)
+  -- the table with a line added is
+  abbrev WithinWith : LineSays → Type 0
+  WithinWith line = Within (lineAdded t line)
+
+  need-line-within : WithinWith (needLine columns l)
   unfolding needLine
   need-line-within =
-      cond-cases Within (noMark (columns .stays) l) _ _
-      (λ b. then-cases-need Within none (needFields (columns .«cluster_columns») l) _ tt λ need next e.
-      then-cases-filled Within none need _ tt λ n f.
+      cond-cases WithinWith (noMark (columns .stays) l) _ _
+      (λ b. then-cases-need WithinWith says.IllFormed (needFields (columns .«cluster_columns») l) _ tt λ need next e.
+      then-cases-filled WithinWith says.IllFormed need _ tt λ n f.
       need-added-within t n h (need-read-within (cell (columns .«cluster_columns» .needs) l) (cell (columns .«cluster_columns» .least) l) need next e n f))
       λ b. tt
 
-  cluster-line-within : Within (clusterLine columns l t)
+  cluster-line-within : WithinWith (clusterLine columns l)
   unfolding clusterLine clusterBegun
   cluster-line-within =
       let part-cell = cell (columns .«cluster_columns» .cluster) l in
       let version-cell = cell (columns .«cluster_columns» .version) l in
-      then-cases Within none (partField part-cell) _ tt λ part behind e.
-      then-cases-version Within none (wholeVersion version-cell) _ tt λ version next f.
+      then-cases WithinWith says.IllFormed (partField part-cell) _ tt λ part behind e.
+      then-cases-version WithinWith says.IllFormed (wholeVersion version-cell) _ tt λ version next f.
       let part-fine = part-read-within part-cell part behind e in
       let version-fine = whole-version-limits version-cell version next _ refl f in
-      then-cases-need Within none (needFields (columns .«cluster_columns») l) _ tt λ need after g.
-      then-cases Within none (markField (columns .stays) l) _ tt λ mark last i.
+      then-cases-need WithinWith says.IllFormed (needFields (columns .«cluster_columns») l) _ tt λ need after g.
+      then-cases WithinWith says.IllFormed (markField (columns .stays) l) _ tt λ mark last i.
       cluster-added-within t _ h
       (cluster-is-within (markedCluster part version (needsFilled need) (eqb mark 1)) part-fine version-fine (omega (arith, few-filled need))
       (needs-read-within (cell (columns .«cluster_columns» .needs) l) (cell (columns .«cluster_columns» .least) l) need after g))
@@ -154,7 +160,7 @@ module _ (columns : ListColumns) (l : List ℕ) (t : Table) (h : tableWithin t �
   pub value-line-within : Within (valueLine columns l t)
   unfolding valueLine
   value-line-within =
-      cond-cases Within (isEmpty (cell (columns .«cluster_columns» .cluster) l) && isEmpty (cell (columns .«cluster_columns» .version) l)) _ _
+      cond-cases WithinWith (isEmpty (cell (columns .«cluster_columns» .cluster) l) && isEmpty (cell (columns .«cluster_columns» .version) l)) _ _
       (λ b. need-line-within) λ b. cluster-line-within
 
 -- ---- all lines

@@ -5,8 +5,8 @@ use mathlib.Core.Path.{_≡_, refl, sym, ap, ap₂, _∙_}
 use mathlib.Core.Bool.{Bool, true}
 use mathlib.Core.List.{List, [], _∷_, _++_, map, map-append}
 use native.Mathlib.Omega.{arith}
-use lib.ListN.{length, take, drop, getD, replicate, length-append, length-map}
-use lib.Seq.{append-snoc, take-append-seam, drop-append-add, getD-append-seam}
+use lib.ListN.{length, take, drop, replicate, length-append, length-map}
+use lib.Seq.{append-snoc, take-append-seam, drop-append-add}
 use borrow.Author.Tests.{leb-true}
 use Rattle.base.proofs.Counted.{counted-few}
 use Rattle.text.specs.declared.version.Version.{Version}
@@ -81,27 +81,19 @@ struct-append t c h =
     (put-behind clustersMost clearedCluster (structCluster c) (map structCluster t) (length t) (length-map t structCluster) h ∙ ap (padded clustersMost clearedCluster) (sym (structs-one-more t c)))
     (sym (length-one-more t c))
 
-pub struct-with-need-at-last : (front : Table) (c : Cluster) (n : Need) → length (c .needs) < needsMost
-    → exact.withNeedAtLast (structTable (front ++ c ∷ [])) n ≡ structTable (front ++ withNeed c n ∷ [])
-unfolding exact.withNeedAtLast structTable
-struct-with-need-at-last front c n h =
-    let more = withNeed c n in
+-- another cluster at the place of the last
+pub struct-at-last : (front : Table) (c d : Cluster)
+    → exact.putAt (length front) (structCluster d) (structTable (front ++ c ∷ []) .clusters) ≡ structTable (front ++ d ∷ []) .clusters
+unfolding structTable
+struct-at-last front c d =
     let xs = map structCluster front in
-    let m = length front in
     let room = replicate (clustersMost - length (xs ++ structCluster c ∷ [])) clearedCluster in
-    let whole = (xs ++ structCluster c ∷ []) ++ room in
-    let place : length (front ++ c ∷ []) - 1 ≡ m = omega (arith, length-one-more front c) in
-    let there : getD whole m noCluster ≡ structCluster c = rw (append-snoc xs (structCluster c) room, ← length-map front structCluster) (getD-append-seam xs (structCluster c) room noCluster) in
-    let same-room : room ≡ replicate (clustersMost - length (xs ++ structCluster more ∷ [])) clearedCluster =
-    ap (λ (k : ℕ). replicate (clustersMost - k) clearedCluster) (length-one-more xs (structCluster c) ∙ sym (length-one-more xs (structCluster more))) in
-    ap₂ {C = TableStruct} (λ (clusters : List ClusterStruct) (count : ℕ). record { clusters = clusters; count = count })
-    (ap₂ (λ (k : ℕ) (l : List ClusterStruct). exact.putAt k (exact.withNeed (getD l k noCluster) n) l) place (ap (padded clustersMost clearedCluster) (structs-one-more front c))
-    ∙ ap (λ (k : ClusterStruct). exact.putAt m (exact.withNeed k n) whole) there
-    ∙ ap (λ (k : ClusterStruct). exact.putAt m k whole) (struct-with-need c n h)
-    ∙ put-last (structCluster c) (structCluster more) xs room m (length-map front structCluster)
-    ∙ ap (λ (l : List ClusterStruct). (xs ++ structCluster more ∷ []) ++ l) same-room
-    ∙ ap (padded clustersMost clearedCluster) (sym (structs-one-more front more)))
-    (length-one-more front c ∙ sym (length-one-more front more))
+    let same-room : room ≡ replicate (clustersMost - length (xs ++ structCluster d ∷ [])) clearedCluster =
+    ap (λ (k : ℕ). replicate (clustersMost - k) clearedCluster) (length-one-more xs (structCluster c) ∙ sym (length-one-more xs (structCluster d))) in
+    ap (λ (l : List ClusterStruct). exact.putAt (length front) (structCluster d) (padded clustersMost clearedCluster l)) (structs-one-more front c)
+    ∙ put-last (structCluster c) (structCluster d) xs room (length front) (length-map front structCluster)
+    ∙ ap (λ (l : List ClusterStruct). (xs ++ structCluster d ∷ []) ++ l) same-room
+    ∙ ap (padded clustersMost clearedCluster) (sym (structs-one-more front d))
 
 pub view-struct : (t : Table) → tableWithin t ≡ true → viewTable (structTable t) ≡ t
 unfolding structTable

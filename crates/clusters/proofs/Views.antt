@@ -1,12 +1,11 @@
 -- The structs of specs/Exact.antt as the plain values that they stand for. Assumes nothing.
-use Prim.Native.Nat.{ℕ, suc, _+_, _-_, _≤_, _<_}
-use mathlib.Core.Path.{_≡_, refl, sym, ap, ap₂, _∙_}
+use Prim.Native.Nat.{ℕ, _+_, _≤_, _<_}
+use mathlib.Core.Path.{_≡_, refl, sym, ap, _∙_}
 use mathlib.Core.Bool.{Bool, true}
 use mathlib.Core.List.{List, [], _∷_, _++_, map, map-append}
 use native.Mathlib.Omega.{arith}
 use lib.Dec.{leb}
 use lib.ListN.{length, take, getD}
-use lib.Seq.{take-suc}
 use borrow.Author.Tests.{leb-true}
 use Rattle.base.proofs.Tests.{and-left}
 use Rattle.base.proofs.Counted.{counted-few}
@@ -14,7 +13,7 @@ use Rattle.text.specs.declared.version.Version.{Version}
 use Rattle.clusters.specs.declared.cluster.Need.{Need}
 use Rattle.clusters.specs.declared.cluster.Cluster.{Cluster as ClusterStruct}
 use Rattle.clusters.specs.declared.table.Table.{Table as TableStruct}
-use Rattle.clusters.specs.Cluster.{Cluster, cluster, markedCluster, withNeed, withMark, needsMost, clusterWithin}
+use Rattle.clusters.specs.Cluster.{cluster, markedCluster, withNeed, withMark, needsMost, clusterWithin}
 use Rattle.clusters.specs.Table.{Table, tableWithin, risingAbove, clustersMost}
 use Rattle.clusters.specs.View.{noNeed, noCluster, viewCluster, viewTable}
 use Rattle.clusters.specs.Exact as exact
@@ -66,42 +65,3 @@ view-append t c h =
     ap (map viewCluster) (counted-few clustersMost (t .count + 1) noCluster (exact.putAt (t .count) c (t .clusters)) (omega arith) ∙ first-put (t .count) c (t .clusters))
     ∙ map-append viewCluster (take (t .count) (t .clusters)) (c ∷ [])
     ∙ ap (λ (l : Table). l ++ viewCluster c ∷ []) (sym (view-few t (omega arith)))
-
--- ---- the last cluster
-
-nothing-before : {A : Type 0} (ys : List A) (y : A) → [] ≡ ys ++ y ∷ [] → ⊥
-nothing-before [] y e = let z : _≡_ {A = ℕ} 0 1 = cc in omega arith
-nothing-before (a ∷ ys) y e = let z : _≡_ {A = ℕ} 0 1 = cc in omega arith
-
-snoc-same : {A : Type 0} (xs ys : List A) (x y : A) → xs ++ x ∷ [] ≡ ys ++ y ∷ [] → (xs ≡ ys) × (x ≡ y)
-snoc-same [] [] x y e = (refl, cc)
-snoc-same [] (b ∷ ys) x y e = absurd (nothing-before ys y (cc))
-snoc-same (a ∷ xs) [] x y e = absurd (nothing-before xs x (cc))
-snoc-same {A = A} (a ∷ xs) (b ∷ ys) x y e =
-    let first : a ≡ b = cc in
-    let rest : xs ++ x ∷ [] ≡ ys ++ y ∷ [] = cc in
-    let both : (xs ≡ ys) × (x ≡ y) = snoc-same xs ys x y rest in
-    (rw first (ap (λ (l : List A). b ∷ l) (both .0)), both .1)
-
-module _ (t : TableStruct) (some-there : 1 ≤ t .count) (few : t .count ≤ clustersMost) (long : t .count ≤ length (t .clusters)) where
-  last-cluster : viewTable t ≡ map viewCluster (take (t .count - 1) (t .clusters)) ++ viewCluster (getD (t .clusters) (t .count - 1) noCluster) ∷ []
-  last-cluster =
-      let m = t .count - 1 in
-      let one : t .count ≡ suc m = omega arith in
-      view-few t few
-      ∙ ap (λ (k : ℕ). map viewCluster (take k (t .clusters))) one
-      ∙ ap (map viewCluster) (take-suc (t .clusters) m noCluster (omega arith))
-      ∙ map-append viewCluster (take m (t .clusters)) (getD (t .clusters) m noCluster ∷ [])
-
-  pub view-with-need-at-last : (n : Need) (front : Table) (c : Cluster) → viewTable t ≡ front ++ c ∷ [] → getD (t .clusters) (t .count - 1) noCluster .«need_count» < needsMost
-      → viewTable (exact.withNeedAtLast t n) ≡ front ++ withNeed c n ∷ []
-  unfolding exact.withNeedAtLast
-  view-with-need-at-last n front c e room =
-      let m = t .count - 1 in
-      let old = getD (t .clusters) m noCluster in
-      let new = exact.withNeed old n in
-      let one : t .count ≡ m + 1 = omega arith in
-      let same = snoc-same (map viewCluster (take m (t .clusters))) front (viewCluster old) c (sym last-cluster ∙ e) in
-      ap (map viewCluster) (counted-few clustersMost (t .count) noCluster (exact.putAt m new (t .clusters)) few ∙ ap (λ (k : ℕ). take k (exact.putAt m new (t .clusters))) one ∙ first-put m new (t .clusters))
-      ∙ map-append viewCluster (take m (t .clusters)) (new ∷ [])
-      ∙ ap₂ (λ (l : Table) (k : Cluster). l ++ k ∷ []) (same .0) (view-with-need old n room ∙ ap (λ (k : Cluster). withNeed k n) (same .1))

@@ -1,15 +1,15 @@
 -- The structs that the functions give, unused places included. proofs/Views.antt has what they stand for.
-use Prim.Native.Nat.{ℕ, _+_, _-_}
+use Prim.Native.Nat.{ℕ, _+_}
 use mathlib.Core.Bool.{Bool, false}
 use mathlib.Core.List.{List, _∷_, _++_}
-use lib.ListN.{take, drop, getD, replicate}
+use lib.ListN.{take, drop, replicate}
 use Rattle.text.specs.declared.version.Version.{Version}
 use Rattle.clusters.specs.declared.cluster.Need.{Need}
 use Rattle.clusters.specs.declared.cluster.Cluster.{Cluster}
 use Rattle.clusters.specs.declared.table.Table.{Table}
 use Rattle.clusters.specs.Cluster.{needsMost}
 use Rattle.clusters.specs.Table.{clustersMost}
-use Rattle.clusters.specs.View.{noNeed, noCluster}
+use Rattle.clusters.specs.View.{noNeed}
 use Rattle.clusters.specs.Struct.{clearedCluster}
 
 -- an array whose place i has the value x
@@ -40,8 +40,3 @@ emptyTable = record { clusters = replicate clustersMost clearedCluster; count = 
 -- a cluster behind the last
 unfoldable pub append : Table → Cluster → Table
 append t c = record { clusters = putAt (t .count) c (t .clusters); count = t .count + 1 }
-
--- a need behind those of the last cluster
-unfoldable pub withNeedAtLast : Table → Need → Table
-withNeedAtLast t n =
-    record { clusters = putAt (t .count - 1) (withNeed (getD (t .clusters) (t .count - 1) noCluster) n) (t .clusters); count = t .count }

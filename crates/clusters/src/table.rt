@@ -1,19 +1,15 @@
 // A table of clusters in rising part number.
 use crate::cluster::Cluster;
-use crate::cluster::Need;
 use crate::cluster::new_cluster;
-use crate::cluster::with_need;
 use place_in_list::Found;
 use text::version::NO_VERSION;
 ghost use mathlib.Core.Path.{_≡_};
-ghost use Prim.Native.Nat.{_-_, _≤_, _<_};
-ghost use lib.ListN.{getD};
+ghost use Prim.Native.Nat.{_≤_, _<_};
 ghost use Rattle.place_in_list.specs.Place.{foundIn};
-ghost use Rattle.clusters.specs.Cluster.{needsMost};
 ghost use Rattle.clusters.specs.Table.{find, clustersMost};
-ghost use Rattle.clusters.specs.View.{noCluster, viewTable};
+ghost use Rattle.clusters.specs.View.{viewTable};
 ghost use Rattle.clusters.specs.Place.{placeOf};
-ghost use Rattle.clusters.specs.Exact.{emptyTable, append, withNeedAtLast};
+ghost use Rattle.clusters.specs.Exact.{emptyTable, append};
 
 // The most clusters that a table has: the one place in the code that has this limit.
 pub const CLUSTERS_MOST: usize = 64;
@@ -55,8 +51,7 @@ pub fn empty_table() -> Table
     }
 }
 
-// Puts a cluster behind the last. Precondition: the table has fewer than 64 clusters; callers compare the count before, or begin with the
-// empty table.
+// Puts a cluster behind the last. Precondition: the table has fewer than 64 clusters; callers begin with the empty table.
 pub fn append(t: Table, c: Cluster) -> Table
     requires { ⌜ t .count < clustersMost ⌝ }
     ensures { λ r. ⌜ r ≡ append t c ⌝ }
@@ -67,23 +62,5 @@ pub fn append(t: Table, c: Cluster) -> Table
     Table {
         clusters: clusters,
         count: count + 1,
-    }
-}
-
-// Puts a need behind those of the last cluster. Precondition: the table has 1 to 64 clusters, and the last fewer than 4 needs; the reader
-// of a list compares both numbers before.
-pub fn with_need_at_last(t: Table, n: Need) -> Table
-    requires { ⌜ (1 ≤ t .count) × (t .count ≤ clustersMost) × (getD (t .clusters) (t .count - 1) noCluster .«need_count» < needsMost) ⌝ }
-    ensures { λ r. ⌜ r ≡ withNeedAtLast t n ⌝ }
-{
-    let count = t.count;
-    let last = count - 1;
-    let mut clusters = t.clusters;
-    let c = clusters[last];
-    let d = with_need(c, n);
-    clusters[last] = d;
-    Table {
-        clusters: clusters,
-        count: count,
     }
 }

@@ -1,7 +1,7 @@
 -- `cluster_list::read::list_at_start` meets its contract: the names line, and the value lines. Assumes nothing.
 use borrow.Author.Needs.{needs}
 use Rattle.cluster_list.specs.Read.{readList}
-use Rattle.cluster_list.proofs.ReadLaws.{read-chain}
+use Rattle.cluster_list.proofs.ReadLaws.{columns-chain}
 use Rattle.cluster_list.proofs.read.list_at_start.Statement.{statement}
 use Rattle.cluster_list.proofs.read.list_at_start.Tie as tie
 
@@ -19,14 +19,14 @@ ill-formed-requires c κs = search needs
 
 returns : tie.Need-returns
 unfolding readList
-returns c = search read-chain depth 9
+returns c = search columns-chain
 
 value-lines-requires : tie.Need-value-lines-requires
 value-lines-requires c κs = search needs
 
 returns-2 : tie.Need-returns-2
 unfolding readList
-returns-2 c = search read-chain depth 9
+returns-2 c = search columns-chain
 
 pub list-at-start-spec : {M : Type 1} → statement M
 list-at-start-spec =

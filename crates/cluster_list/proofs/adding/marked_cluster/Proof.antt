@@ -1,8 +1,8 @@
--- `cluster_list::read::marked_cluster` meets its contract: the cluster with its need, and then the mark. Assumes nothing.
+-- `cluster_list::adding::marked_cluster` meets its contract: the cluster with its need, and then the mark. Assumes nothing.
 use Rattle.cluster_list.proofs.ReadLaws.{marked}
 use borrow.Author.Needs.{needs}
-use Rattle.cluster_list.proofs.read.marked_cluster.Statement.{statement}
-use Rattle.cluster_list.proofs.read.marked_cluster.Tie as tie
+use Rattle.cluster_list.proofs.adding.marked_cluster.Statement.{statement}
+use Rattle.cluster_list.proofs.adding.marked_cluster.Tie as tie
 
 cluster-with-requires : tie.Need-cluster-with-requires
 cluster-with-requires c κs = search needs

@@ -1,8 +1,8 @@
--- `cluster_list::read::value_line` meets its contract: by the fields cluster and version a line of either kind. Assumes nothing.
+-- `cluster_list::value_line::value_line` meets its contract: by the fields cluster and version a line of either kind. Assumes nothing.
 use Rattle.cluster_list.proofs.ReadLaws.{by-cluster, by-version, by-neither}
 use borrow.Author.Needs.{needs}
-use Rattle.cluster_list.proofs.read.value_line.Statement.{statement}
-use Rattle.cluster_list.proofs.read.value_line.Tie as tie
+use Rattle.cluster_list.proofs.value_line.value_line.Statement.{statement}
+use Rattle.cluster_list.proofs.value_line.value_line.Tie as tie
 
 cell-at-requires : tie.Need-cell-at-requires
 cell-at-requires c κs = search needs

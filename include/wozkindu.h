@@ -27,6 +27,9 @@ extern "C" {
 /* The most bytes that a store may have. */
 #define WOZKINDU_STORE_MOST 16777216
 
+/* A function declared here uses less than this many bytes of stack. */
+#define WOZKINDU_STACK_MOST 262144
+
 /* A list of calls: a row for each call, one behind the other. A word that a call does not have is 0. */
 #define WOZKINDU_ROW_WORDS 6
 
@@ -90,7 +93,7 @@ enum wozkindu_answer {
     WOZKINDU_ANSWER_OLD = 13      /* an old call: the value is one of enum wozkindu_old_answer of that call */
 };
 
-/* Why a call was refused, in the order in which it is checked. 19, ShortBuffer, is an answer of reading calls, which are not declared here. */
+/* Why a call was refused, in the order in which it is checked. Only a reading call answers 19, ShortBuffer, and none is declared here. */
 enum wozkindu_refusal {
     WOZKINDU_REFUSAL_BAD_STATE = 1,
     WOZKINDU_REFUSAL_SERVICE_BUSY = 2,
@@ -151,15 +154,12 @@ enum wozkindu_result {
    The caller owns all memory and lends it for the time of the call. Nothing is allocated, nothing is kept between two calls, and there is
    no variable outside the call: several threads may call at once, each with its own store and answers.
 
-   Nothing that the bytes and words say can make the call misbehave, but each pointer must be right. It points to as many elements as its
-   length says, which may be read, of store and answers written too; nobody else writes them during the call. It is aligned as its type
-   is. It is not NULL, also where the length is 0: the compiled code may count on it. Store and answers overlap neither each other nor
-   anything else that is lent: each byte of them has one owner, and all that is proved rests on this. List, words and bytes are only
-   read and may overlap one another.
-
-   The call needs a stack of WOZKINDU_STACK_LEAST bytes. */
-#define WOZKINDU_STACK_LEAST 0
-
+   Whatever the bytes and words say, the call ends and writes nothing but store and answers. The pointers must be right:
+   - Each points to as many elements as its length says, aligned as their type demands, which may be read and, of store and answers,
+     written. None is NULL, also where the length is 0: a NULL pointer is no slice, and nothing is promised of one.
+   - Store and answers overlap neither each other nor what is lent for reading, and nobody else reads or writes them during the call; nobody
+     writes the others. All that is proved speaks of slices of which this holds, and the compiled code relies on it. List, words and
+     bytes are only read and may overlap one another. */
 uint32_t wozkindu_load_and_run(const uint8_t *list, size_t list_length, uint32_t first, uint8_t *store, size_t store_length,
                                const uint32_t *words, size_t words_length, const uint8_t *bytes, size_t bytes_length,
                                uint32_t *answers, size_t answers_length);

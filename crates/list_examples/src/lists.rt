@@ -1,9 +1,11 @@
 // A case: a sentence, the first transfer id, a cluster list, the words of a list of calls, the words of further calls, a row to a line,
-// and the byte string with the blocks. Without further calls the answers of the list are printed. Else each further call is made alone,
-// with the state and store that the list left, and its answer is printed. Then the number of the manager's state.
+// and the byte string with the blocks. Without further calls the number that a program in C is answered and the answers of the list are
+// printed. Else each further call is made alone, with the state and store that the list left, and its answer is printed. Then the number
+// of the manager's state.
 use crate::answers::show_answers;
 use crate::answers::show_state;
 use crate::words::put_words;
+use c_interface::wozkindu_load_and_run;
 use call_list::ListReply;
 use call_list::RepliedList;
 use call_list::loaded::load_and_run;
@@ -48,9 +50,26 @@ fn show_list(case: &[u8], words: &[u32], store: &mut [u8], answers: &mut [u32]) 
     show_replied(list, answers, words.len() / 3);
 }
 
+// Makes the list as a program in C does, and prints the number that it is answered.
+fn show_number(case: &[u8], words: &[u32], store: &mut [u8], answers: &mut [u32]) {
+    let first = number_of(field(case, 1));
+    let number = wozkindu_load_and_run(
+        field(case, 2),
+        first,
+        store,
+        words,
+        field(case, 5),
+        answers,
+    );
+    show::byte(b' ');
+    show::number(number);
+    show::byte(b',');
+}
+
 fn play_list(case: &[u8], words: &[u32]) {
     let mut store = [255u8; 2000];
     let mut answers = [0u32; 400];
+    show_number(case, words, &mut store, &mut answers);
     show_list(case, words, &mut store, &mut answers);
 }
 

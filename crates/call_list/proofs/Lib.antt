@@ -1,6 +1,7 @@
 pub mod WithoutRefused
 pub mod DemandLaws
 pub mod RowCall
+pub mod SoundnessKept
 pub mod ListLaws
 pub mod RunWays
 pub mod LoadedWays

@@ -2,7 +2,7 @@
 -- nothing.
 use Prim.Native.Nat.{ℕ, _+_, _*_, _/_, _≤_, _<_}
 use mathlib.Core.Path.{_≡_, refl, sym, ap, subst, _∙_}
-use mathlib.Core.Bool.{true}
+use mathlib.Core.Bool.{Bool, true}
 use mathlib.Core.List.{List, [], _∷_, _++_, append-assoc, append-nil}
 use mathlib.Core.Option.{Option, none, some, Option·some-injective}
 use native.Mathlib.Omega.{arith}
@@ -10,6 +10,7 @@ use lib.ListN.{length, drop, length-append}
 use lib.Seq.{sets, sets-eq, length-sets, take-at, drop-at, drop-drop}
 use Rattle.base.proofs.Tests.{clash}
 use Rattle.model.specs.State.{Store}
+use Rattle.model.specs.Sound.{sound}
 use Rattle.model.specs.Layers.{EventOutcome, madeEvent, EventRun, eventOutcome, eventRun, runEvents}
 use Rattle.model.proofs.journal.EventRuns.{thenMade, events-last, view-last}
 use Rattle.state.specs.declared.state.State.{State}
@@ -25,6 +26,7 @@ use Rattle.call_list.specs.declared.RowAnswered.{RowAnswered}
 use Rattle.call_list.specs.Run.{exactMixedStep}
 use Rattle.call_list.specs.Answers.{wordsOf}
 use Rattle.call_list.specs.WholeList.{CallMade, RowMade, MadeFrom, RowsMade}
+use Rattle.call_list.proofs.SoundnessKept.{made-soundness}
 
 -- ---- the answers
 
@@ -94,7 +96,8 @@ module _ (s₀ : State) (store₀ : Store) (answers₀ : List ℕ) where
 
 -- ---- the loop
 
--- i words are past and `at` words of answers are written: the calls of the words past were made, and what is left is given
+-- i words are past and `at` words of answers are written: the calls of the words past were made, what is left is given, and the state is
+-- sound for the store as before the first call
 pub record MadeSoFar (words bytes : List ℕ) (s₀ : State) (store₀ : Store) (answers₀ : List ℕ) (s : State) (store : Store) (answers : List ℕ) (i at : ℕ) : Type 0 where
   pub past : List MixedCall
   pub rest : List MixedCall
@@ -103,6 +106,7 @@ pub record MadeSoFar (words bytes : List ℕ) (s₀ : State) (store₀ : Store) 
   pub so-far : MadeFrom s₀ store₀ answers₀ past s store answers
   pub place : at ≡ 2 * length past
   pub word : i ≡ 3 * at
+  pub sound-kept : sound (viewState s) store ≡ sound (viewState s₀) store₀
   pub store-long : length store ≡ length store₀
   pub answers-long : length answers ≡ length answers₀
 
@@ -117,6 +121,7 @@ module _ (words bytes : List ℕ) (s₀ : State) (store₀ : Store) (answers₀ 
         so-far = none-made s₀ store₀ answers₀;
         place = refl;
         word = refl;
+        sound-kept = refl;
         store-long = refl;
         answers-long = refl;
       }
@@ -130,6 +135,10 @@ module _ (words bytes : List ℕ) (s₀ : State) (store₀ : Store) (answers₀ 
 
   module _ (s : State) (store : Store) (answers : List ℕ) (i at : ℕ) (so : MadeSoFar words bytes s₀ store₀ answers₀ s store answers i at)
     where
+      -- what the check before the first call said holds still
+      pub sound-still : (b : Bool) → b ≡ sound (viewState s₀) store₀ → b ≡ sound (viewState s) store
+      sound-still b e = e ∙ sym (so .sound-kept)
+
       pub row-left : i < length words → i + 6 ≤ length words
       row-left h = whole-row words bytes i (so .rest) (so .left) h
 
@@ -143,7 +152,8 @@ module _ (words bytes : List ℕ) (s₀ : State) (store₀ : Store) (answers₀ 
       one-more h room r is given store′ long row answers′ put =
           let f = next-call words bytes i (so .rest) (so .left) (row-left h) in
           let here : decodedRow r bytes ≡ some (f .call) = ap (λ (x : Row). decodedRow x bytes) is ∙ f .here in
-          let next = one-more-made s₀ store₀ answers₀ (so .past) s store answers (so .so-far) (f .call) given store′ (row (f .call) here) at (so .place) (room-left h room) in
+          let made = row (f .call) here in
+          let next = one-more-made s₀ store₀ answers₀ (so .past) s store answers (so .so-far) (f .call) given store′ made at (so .place) (room-left h room) in
           record {
             past = so .past ++ f .call ∷ [];
             rest = f .rest;
@@ -155,6 +165,7 @@ module _ (words bytes : List ℕ) (s₀ : State) (store₀ : Store) (answers₀ 
             so-far = subst (λ (a : List ℕ). MadeFrom s₀ store₀ answers₀ (so .past ++ f .call ∷ []) (given .state) store′ a) (sym put) next;
             place = omega (arith, so .place, length-append (so .past) (f .call ∷ []));
             word = omega (arith, so .word);
+            sound-kept = made-soundness s store (f .call) given store′ made ∙ so .sound-kept;
             store-long = long ∙ so .store-long;
             answers-long = ap length put ∙ length-sets answers at (given .words .kind ∷ given .words .value ∷ []) ∙ so .answers-long;
           }

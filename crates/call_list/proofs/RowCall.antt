@@ -19,9 +19,9 @@ use Rattle.request.specs.Call.{callOf}
 use Rattle.manager.specs.Accepts.{exactStep}
 use Rattle.four_state.specs.declared.call.OldCall.{OldCall}
 use Rattle.four_state.specs.declared.answer.OldAnswered.{OldAnswered}
-use Rattle.four_state.specs.OldCalls.{oldStep}
 use Rattle.four_state.specs.Exact.{oldOutcome, exactOldStep}
 use Rattle.four_state.specs.MixedLists.{MixedCall, ofTwelve, ofFour, byTwelve, byFour, mixedStep}
+use Rattle.four_state.proofs.OldWays.{view-old}
 use Rattle.call_rows.specs.declared.row.Row.{Row}
 use Rattle.call_rows.specs.declared.row.MixedRequest.{MixedRequest}
 use Rattle.call_rows.specs.declared.row.MixedRequest.the-variants.{Twelve, Old}
@@ -52,15 +52,16 @@ module _ (s : State) (store store′ : Store) where
       })
 
   pub made-old : (call : OldCall) (made : OldAnswered) (words : AnswerWords) (r : RowAnswered)
-      → viewOutcomeBy viewState (oldOutcome made store′) ≡ oldStep (viewState s) store call → oldOutcome made store′ ≡ exactOldStep s store call
+      → oldOutcome made store′ ≡ exactOldStep s store call
       → words ≡ answerWords (byFour (made .answer)) → r ≡ rowAnswered words (made .state) → CallMade s store (ofFour call) r store′
   unfolding mixedStep exactMixedStep
-  made-old call made words r meaning exact are is =
+  made-old call made words r exact are is =
       rw (is, are)
       (record {
         answer = byFour (made .answer);
         words = refl;
-        meaning = ap (λ (o : EventOutcome model.State ℕ). eventOutcome (byFour (o .answer)) (o .state) (o .store)) meaning;
+        meaning = ap (λ (o : EventOutcome model.State ℕ). eventOutcome (byFour (o .answer)) (o .state) (o .store))
+            (ap (viewOutcomeBy viewState) exact ∙ view-old s store call);
         exact = ap (λ (o : EventOutcome State ℕ). eventOutcome (byFour (o .answer)) (o .state) (o .store)) exact;
       })
 

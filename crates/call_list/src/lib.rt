@@ -12,10 +12,11 @@ use call_rows::row::row_block;
 use call_rows::row::row_request;
 use call_rows::row_list::rows_well_formed;
 use four_state::call::OldCall;
-use four_state::call::old_call;
-use manager::call;
+use four_state::call::old_call_after_check;
+use manager::call_after_check;
 use refusal::BAD_STATE;
 use request::Request;
+use soundness::sound::sound;
 use state::answer::Answer;
 use state::state::State;
 ghost use mathlib.Core.Path.{_≡_};
@@ -24,6 +25,7 @@ ghost use mathlib.Core.List.{[], _∷_};
 ghost use Prim.Native.Nat.{_+_, _/_, _≤_};
 ghost use lib.ListN.{length};
 ghost use lib.Seq.{sets};
+ghost use Rattle.model.specs.Sound.{soundFor};
 ghost use Rattle.request.specs.Call.{callOf};
 ghost use Rattle.state.specs.View.{viewState};
 ghost use Rattle.four_state.specs.MixedLists.{ofTwelve, ofFour};
@@ -61,35 +63,51 @@ fn row_answered(words: AnswerWords, s: State) -> RowAnswered
     }
 }
 
-// Makes a call of the twelve.
-fn make_twelve(s: State, store: &mut [u8], request: Request, block: &[u8]) -> RowAnswered
+// Makes a call of the twelve. Precondition, here and below: `is_sound` says whether the state is sound for the store; `make_all` checks it
+// before the first call, and every call leaves it so.
+fn make_twelve(
+    s: State,
+    is_sound: bool,
+    store: &mut [u8],
+    request: Request,
+    block: &[u8],
+) -> RowAnswered
+    requires { ⌜ «is_sound» ≡ soundFor (viewState s) (length (now store)) ⌝ }
     ensures { λ r. ⌜ CallMade s (now (store .entry)) (ofTwelve (callOf request (now (block .entry)))) r (now (store .exit)) ⌝ }
 {
-    let made = call(s, store, request, block);
+    let made = call_after_check(s, is_sound, store, request, block);
     let answer = made.answer;
     let state = made.state;
     row_answered(answer_words(answer), state)
 }
 
 // Makes a call of the old four, which writes no store.
-fn make_old(s: State, store: &[u8], old: OldCall) -> RowAnswered
+fn make_old(s: State, is_sound: bool, store: &[u8], old: OldCall) -> RowAnswered
+    requires { ⌜ «is_sound» ≡ soundFor (viewState s) (length (now store)) ⌝ }
     ensures { λ r. ⌜ CallMade s (now (store .entry)) (ofFour old) r (now (store .entry)) ⌝ }
 {
-    let made = old_call(s, store, old);
+    let made = old_call_after_check(s, is_sound, store, old);
     let state = made.state;
     row_answered(old_answer_words(made.answer), state)
 }
 
 // Makes the call of a row. Of a malformed row nothing is said: `run` and `load_and_run` check all rows before the first call.
-fn make_call(s: State, store: &mut [u8], row: Row, bytes: &[u8]) -> RowAnswered
+fn make_call(s: State, is_sound: bool, store: &mut [u8], row: Row, bytes: &[u8]) -> RowAnswered
+    requires { ⌜ «is_sound» ≡ soundFor (viewState s) (length (now store)) ⌝ }
     ensures { λ r. ⌜ RowMade s (now (store .entry)) row (now (bytes .entry)) r (now (store .exit)) ⌝ }
 {
     let RowRequest::WellFormed(request) = row_request(row, bytes.len()) else {
         return row_answered(answer_words(Answer::Refused(BAD_STATE)), s);
     };
     match request {
-        MixedRequest::Twelve(twelve) => make_twelve(s, store, twelve, row_block(row, bytes)),
-        MixedRequest::Old(old) => make_old(s, store, old),
+        MixedRequest::Twelve(twelve) => make_twelve(
+            s,
+            is_sound,
+            store,
+            twelve,
+            row_block(row, bytes),
+        ),
+        MixedRequest::Old(old) => make_old(s, is_sound, store, old),
     }
 }
 
@@ -111,11 +129,12 @@ fn make_all(s: State, store: &mut [u8], words: &[u32], bytes: &[u8], answers: &m
     ensures { λ r. ⌜ RowsMade s (now (store .entry)) (now (answers .entry)) (decoded (now (words .entry)) (now (bytes .entry)))
         r (now (store .exit)) (now (answers .exit)) ⌝ }
 {
+    let is_sound = sound(s, store.len());
     let mut state = s;
     let mut i = 0;
     let mut at = 0;
     while i < words.len() {
-        let r = make_call(state, store, row_at(words, i), bytes);
+        let r = make_call(state, is_sound, store, row_at(words, i), bytes);
         let given = r.words;
         put_answer(answers, at, given);
         state = r.state;

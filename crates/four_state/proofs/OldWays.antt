@@ -126,7 +126,7 @@ module _ (s : State) (store : Store) (call : OldCall) where
                   ∙ ap (λ (o : Outcome). eventOutcome 0 (o .answered .state) (o .store)) (is ∙ called-sound s store (twelveOf call) (accepts s store (twelveOf call)) ok);
             }
 
-  -- ---- a public call: b is what the check of soundness answers
+  -- ---- from any state: b is what the check of soundness answers
 
   abbrev GivesOfSound : OldAnswered → Type 0
   GivesOfSound r = Gives s store call (firstRefusal (furtherAnswers (viewState s) call)) r
@@ -147,8 +147,9 @@ module _ (s : State) (store : Store) (call : OldCall) where
   pub on-sound : (r : OldAnswered) → oldOutcome r store ≡ answeredOnSound s store call → GivesOfSound r
   on-sound r e = record { same = e }
 
-  pub is-on-sound : (r : OldAnswered) → GivesOfSound r → oldOutcome r store ≡ answeredOnSound s store call
-  is-on-sound r g = g .same
+  -- what it gives, of any state and of a sound one, as a function ensures it
+  pub as-ensured : (answer : Option ℕ) (r : OldAnswered) → Gives s store call answer r → oldOutcome r store ≡ exactBegunUnless s store call answer
+  as-ensured answer r g = g .same
 
   -- ---- its clauses
 
@@ -186,10 +187,10 @@ module _ (s : State) (store : Store) (call : OldCall) where
       (step-sound (viewState s) store (twelveOf call) (not-false _ (first-passed _ _ passed)))
 
   -- the three follow from the exact one
-  pub old-clauses : (r : OldAnswered) → GivesExactly r
+  pub old-clauses : (r : OldAnswered) → oldOutcome r store ≡ exactOldStep s store call
       → (viewOutcomeBy viewState (oldOutcome r store) ≡ oldStep (viewState s) store call)
       × ((oldOutcome r store ≡ exactOldStep s store call) × SoundIfZero (oldOutcome r store))
-  old-clauses r g = (ap (viewOutcomeBy viewState) (g .same) ∙ view-old, (g .same, subst SoundIfZero (sym (g .same)) sound-if-zero))
+  old-clauses r exact = (ap (viewOutcomeBy viewState) exact ∙ view-old, (exact, subst SoundIfZero (sym exact) sound-if-zero))
 
 -- ---- what the functions tell
 
@@ -216,12 +217,9 @@ pub needs-of-staged : (session : Session) → session .count ≤ entriesMost →
 needs-of-staged session few long ok t met e f =
     ap not (f ∙ ap (λ (z : Table). needsMet (viewTable z)) e ∙ ap needsMet (view-staged session few long ok))
 
--- the clauses of a call whose case is known
+-- a call whose case is known
 pub by-case : (s : State) (store : Store) (call case : OldCall) (r : OldAnswered) → call ≡ case
-    → (viewOutcomeBy viewState (oldOutcome r store) ≡ oldStep (viewState s) store case)
-    × ((oldOutcome r store ≡ exactOldStep s store case) × SoundIfZero (oldOutcome r store))
-    → (viewOutcomeBy viewState (oldOutcome r store) ≡ oldStep (viewState s) store call)
-    × ((oldOutcome r store ≡ exactOldStep s store call) × SoundIfZero (oldOutcome r store))
+    → oldOutcome r store ≡ exactOldStep s store case → oldOutcome r store ≡ exactOldStep s store call
 by-case s store call case r is given = rw is given
 
 pub ruleset old-ways = (answer-unsound, pass-sound, on-sound, answer-first, pass-answer, answer-made, left-by-state, left-by-id)

@@ -43,7 +43,7 @@ fn ready_with_unmet_needs(phase: Phase, session: Session) -> bool
     !needs_met(staged(session))
 }
 
-// Makes the call on a sound state. Precondition: the state is sound for the store; `activate` checks it.
+// Makes the call on a sound state. Precondition: the state is sound for the store; `activate_after_check` tests it.
 fn old_activate_on_sound(s: State, store: &[u8]) -> OldAnswered
     requires { ⌜ soundFor (viewState s) (length (now store)) ≡ true ⌝ }
     ensures { λ r. ⌜ oldOutcome r (now (store .entry)) ≡ answeredOnSound s (now (store .entry)) Activate ⌝ }
@@ -59,14 +59,23 @@ fn old_activate_on_sound(s: State, store: &[u8]) -> OldAnswered
     answer_by(activate_on_sound(s, store), ERROR_DURING_ACTIVATION)
 }
 
+// Makes the call after the check of soundness. Precondition: `is_sound` is what the check says of the state and the store; `activate` makes
+// the check, and who calls `old_call_after_check` has made it.
+pub fn activate_after_check(s: State, is_sound: bool, store: &[u8]) -> OldAnswered
+    requires { ⌜ «is_sound» ≡ soundFor (viewState s) (length (now store)) ⌝ }
+    ensures { λ r. ⌜ oldOutcome r (now (store .entry)) ≡ exactOldStep s (now (store .entry)) Activate ⌝ }
+{
+    if !is_sound {
+        return old_answer(ERROR_DURING_ACTIVATION, s);
+    }
+    old_activate_on_sound(s, store)
+}
+
 // Activate: does what the twelve's does, and only with all needs met in the staged table.
 pub fn activate(s: State, store: &[u8]) -> OldAnswered
     ensures meaning { λ r. ⌜ viewOldAnswered r (now (store .entry)) ≡ oldStep (viewState s) (now (store .entry)) Activate ⌝ }
     ensures exact { λ r. ⌜ oldOutcome r (now (store .entry)) ≡ exactOldStep s (now (store .entry)) Activate ⌝ }
     ensures sound { λ r. ⌜ SoundIfZero (oldOutcome r (now (store .entry))) ⌝ }
 {
-    if !sound(s, store.len()) {
-        return old_answer(ERROR_DURING_ACTIVATION, s);
-    }
-    old_activate_on_sound(s, store)
+    activate_after_check(s, sound(s, store.len()), store)
 }

@@ -26,7 +26,7 @@ ghost use Rattle.state.specs.View.{viewState};
 ghost use Rattle.state.specs.Outcome.{outcome, viewAnswered, SoundIfAccepted};
 ghost use Rattle.manager.specs.Accepts.{exactStep, exactStepOnSound, requestStep};
 
-// Makes a call after refusal 1. Only TransferData has a block. Precondition: the state is sound for the store; `call` checks it.
+// Makes a call after refusal 1. Only TransferData has a block. Precondition: the state is sound for the store; `call_after_check` tests it.
 fn call_on_sound(s: State, store: &mut [u8], request: Request, block: &[u8]) -> Answered
     requires { ⌜ soundFor (viewState s) (length (now store)) ≡ true ⌝ }
     ensures { λ r. ⌜ outcome r (now (store .exit)) ≡ exactStepOnSound s (now (store .entry)) (callOf request (now (block .entry))) ⌝ }
@@ -47,14 +47,32 @@ fn call_on_sound(s: State, store: &mut [u8], request: Request, block: &[u8]) -> 
     }
 }
 
+// Makes one of the twelve changing calls after the check of soundness. Precondition: `is_sound` is what the check says of the state and the
+// store; `call` makes the check for one call, `call_list` for a list of calls.
+pub fn call_after_check(
+    s: State,
+    is_sound: bool,
+    store: &mut [u8],
+    request: Request,
+    block: &[u8],
+) -> Answered
+    requires { ⌜ «is_sound» ≡ soundFor (viewState s) (length (now store)) ⌝ }
+    ensures meaning { λ r. ⌜ viewAnswered r (now (store .exit)) ≡ requestStep s (now (store .entry)) request (now (block .entry)) ⌝ }
+    ensures exact { λ r. ⌜ outcome r (now (store .exit)) ≡ exactStep s (now (store .entry)) (callOf request (now (block .entry))) ⌝ }
+    ensures sound { λ r. ⌜ SoundIfAccepted (outcome r (now (store .exit))) ⌝ }
+{
+    if !is_sound {
+        return refused(s, BAD_STATE);
+    }
+    call_on_sound(s, store, request, block)
+}
+
 // Makes one of the twelve changing calls, from any state and bytes.
 pub fn call(s: State, store: &mut [u8], request: Request, block: &[u8]) -> Answered
     ensures meaning { λ r. ⌜ viewAnswered r (now (store .exit)) ≡ requestStep s (now (store .entry)) request (now (block .entry)) ⌝ }
     ensures exact { λ r. ⌜ outcome r (now (store .exit)) ≡ exactStep s (now (store .entry)) (callOf request (now (block .entry))) ⌝ }
     ensures sound { λ r. ⌜ SoundIfAccepted (outcome r (now (store .exit))) ⌝ }
 {
-    if !sound(s, store.len()) {
-        return refused(s, BAD_STATE);
-    }
-    call_on_sound(s, store, request, block)
+    let is_sound = sound(s, store.len());
+    call_after_check(s, is_sound, store, request, block)
 }

@@ -1,24 +1,28 @@
 -- `call_list::make_all` meets its contract. The loop's invariant is `MadeSoFar`: the calls of the words before i were made, their answers
--- stand before `at`, and what is left of the words is a list of calls. The measure is the number of words left. Assumes nothing.
+-- stand before `at`, what is left of the words is a list of calls, and the state is sound for the store exactly if it was before the first
+-- call, which was checked. The measure is the number of words left. Assumes nothing.
 use Prim.Native.Nat.{_+_, _-_, _^_, _≤_, _<_}
 use borrow.Author.Needs.{needs}
 use native.Mathlib.Omega.{arith}
 use lib.ListN.{length}
-use Rattle.call_list.proofs.ListLaws.{MadeSoFar, none-so-far, row-left, room-left, one-more, all-made}
+use Rattle.call_list.proofs.ListLaws.{MadeSoFar, none-so-far, sound-still, row-left, room-left, one-more, all-made}
 use Rattle.call_list.proofs.make_all.Statement.{statement}
 use Rattle.call_list.proofs.make_all.Tie as tie
 
 abbrev Inv-loop : tie.InvT-loop
-Inv-loop store₀ words bytes answers₀ state₀ i₀ at₀ store answers state i at = MadeSoFar words bytes state₀ store₀ answers₀ state store answers i at
+Inv-loop store₀ words bytes answers₀ is-sound state₀ i₀ at₀ store answers state i at = MadeSoFar words bytes state₀ store₀ answers₀ state store answers i at
 
 abbrev μ-loop : tie.MeasureT-loop
-μ-loop store₀ words bytes answers₀ state₀ i₀ at₀ store answers state i at = length words - i
+μ-loop store₀ words bytes answers₀ is-sound state₀ i₀ at₀ store answers state i at = length words - i
+
+sound-requires : tie.Need-sound-requires Inv-loop μ-loop
+sound-requires c κs = search needs
 
 loop-holds : tie.Need-loop-holds Inv-loop μ-loop
-loop-holds c = none-so-far _ _ _ _ _ (c .before .before .before .before .pre .0)
+loop-holds c = none-so-far _ _ _ _ _ (c .before .before .before .before .before .pre .0)
 
 -- at the head of a turn: a whole row is left, and room for its answer
-row-here : (c : tie.In-loop Inv-loop μ-loop) → (let a = c .before .before .before .before .before .before .args in
+row-here : (c : tie.In-loop Inv-loop μ-loop) → (let a = c .before .before .before .before .before .before .before .args in
     c .before .loop .i + 6 ≤ length (a .words .now))
 row-here c =
     let l = c .before .loop in
@@ -27,7 +31,7 @@ row-here c =
 room-here : (c : tie.In-loop Inv-loop μ-loop) → c .before .loop .at + 2 ≤ length (c .before .loop .answers)
 room-here c =
     let l = c .before .loop in
-    room-left _ _ _ _ _ (l .state) (l .store) (l .answers) (l .i) (l .at) (l .inv) (c .loop-test .taken) (c .before .before .before .before .before .before .pre .1)
+    room-left _ _ _ _ _ (l .state) (l .store) (l .answers) (l .i) (l .at) (l .inv) (c .loop-test .taken) (c .before .before .before .before .before .before .before .pre .1)
 
 -- the next places fit. It is said here, because behind the call `omega` does not look so far back
 places-fit : (c : tie.In-loop Inv-loop μ-loop) → (c .before .loop .i + 6 < 2 ^ 64) × (c .before .loop .at + 2 < 2 ^ 64)
@@ -41,7 +45,10 @@ row-at-requires : tie.Need-row-at-requires Inv-loop μ-loop
 row-at-requires c κs = row-here (c .before)
 
 make-call-requires : tie.Need-make-call-requires Inv-loop μ-loop
-make-call-requires c κs = search needs
+make-call-requires c κs =
+    let head = c .before .before .before in
+    let l = head .loop in
+    sound-still _ _ _ _ _ (l .state) (l .store) (l .answers) (l .i) (l .at) (l .inv) _ (head .before .sound .ensures)
 
 put-answer-requires : tie.Need-put-answer-requires Inv-loop μ-loop
 put-answer-requires c κs = room-here (c .before .before .before .before .before .before .before)
@@ -62,7 +69,7 @@ loop-again c =
     let row = made .before in
     let h = row .before .before in
     let l = h .before .loop in
-    one-more _ _ _ _ _ (l .state) (l .store) (l .answers) (l .i) (l .at) (l .inv) (h .loop-test .taken) (h .before .before .before .before .before .before .pre .1) _ (row .row-at .ensures) (made .make-call .result) _ (made .make-call .kept .1 .0) (made .make-call .ensures) _ (put .put-answer .ensures)
+    one-more _ _ _ _ _ (l .state) (l .store) (l .answers) (l .i) (l .at) (l .inv) (h .loop-test .taken) (h .before .before .before .before .before .before .before .pre .1) _ (row .row-at .ensures) (made .make-call .result) _ (made .make-call .kept .1 .1 .0) (made .make-call .ensures) _ (put .put-answer .ensures)
 
 same-length : tie.Need-same-length Inv-loop μ-loop
 same-length c = c .before .loop .inv .store-long
@@ -81,6 +88,7 @@ make-all-spec =
     (tie.spec
     Inv-loop
     μ-loop
+    sound-requires
     loop-holds
     row-at-requires
     make-call-requires

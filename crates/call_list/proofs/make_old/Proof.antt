@@ -4,8 +4,8 @@ use Rattle.call_list.proofs.RowCall.{made-old}
 use Rattle.call_list.proofs.make_old.Statement.{statement}
 use Rattle.call_list.proofs.make_old.Tie as tie
 
-old-call-requires : tie.Need-old-call-requires
-old-call-requires c κs = search needs
+old-call-after-check-requires : tie.Need-old-call-after-check-requires
+old-call-after-check-requires c κs = search needs
 
 old-answer-words-requires : tie.Need-old-answer-words-requires
 old-answer-words-requires c κs = search needs
@@ -18,4 +18,4 @@ returns c = search made-old
 
 pub make-old-spec : {M : Type 1} → statement M
 make-old-spec =
-    tie.close (tie.spec old-call-requires old-answer-words-requires row-answered-requires returns)
+    tie.close (tie.spec old-call-after-check-requires old-answer-words-requires row-answered-requires returns)

@@ -4,8 +4,8 @@ use Rattle.call_list.proofs.RowCall.{made-twelve}
 use Rattle.call_list.proofs.make_twelve.Statement.{statement}
 use Rattle.call_list.proofs.make_twelve.Tie as tie
 
-call-requires : tie.Need-call-requires
-call-requires c κs = search needs
+call-after-check-requires : tie.Need-call-after-check-requires
+call-after-check-requires c κs = search needs
 
 answer-words-requires : tie.Need-answer-words-requires
 answer-words-requires c κs = search needs
@@ -22,4 +22,4 @@ returns c = search made-twelve
 pub make-twelve-spec : {M : Type 1} → statement M
 make-twelve-spec =
     tie.close
-    (tie.spec call-requires answer-words-requires row-answered-requires same-length returns)
+    (tie.spec call-after-check-requires answer-words-requires row-answered-requires same-length returns)

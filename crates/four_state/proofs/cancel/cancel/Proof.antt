@@ -1,51 +1,18 @@
--- `four_state::cancel::cancel` meets its contract: the ways out of an old call; its clauses follow from the exact one. Assumes nothing.
+-- `four_state::cancel::cancel` meets its contract: the call after the check that it makes; its clauses follow from the exact one. Assumes nothing.
 use borrow.Author.Needs.{needs}
-use Rattle.base.proofs.Ladder.{told-yes}
-use Rattle.manager.specs.Accepts.{accepts}
-use Rattle.four_state.specs.OldCalls.{furtherAnswers}
-use Rattle.four_state.proofs.OldWays.{told-permitted, old-ways, old-clauses}
+use Rattle.four_state.proofs.OldWays.{old-clauses}
 use Rattle.four_state.proofs.cancel.cancel.Statement.{statement}
 use Rattle.four_state.proofs.cancel.cancel.Tie as tie
 
 sound-requires : tie.Need-sound-requires
 sound-requires c κs = search needs
 
-old-answer-requires : tie.Need-old-answer-requires
-old-answer-requires c κs = search needs
+cancel-after-check-requires : tie.Need-cancel-after-check-requires
+cancel-after-check-requires c κs = search needs
 
 returns : tie.Need-returns
-returns c = old-clauses _ _ _ (c .old-answer .result) (search old-ways)
-
-allowed-requires : tie.Need-allowed-requires
-allowed-requires c κs = search needs
-
-old-answer-requires-2 : tie.Need-old-answer-requires-2
-old-answer-requires-2 c κs = search needs
-
-returns-2 : tie.Need-returns-2
-unfolding furtherAnswers
-returns-2 c = old-clauses _ _ _ (c .old-answer2 .result) (search (old-ways, told-permitted))
-
-cancel-on-sound-requires : tie.Need-cancel-on-sound-requires
-cancel-on-sound-requires c κs = search told-yes
-
-answer-by-requires : tie.Need-answer-by-requires
-answer-by-requires c κs = search needs
-
-returns-3 : tie.Need-returns-3
-unfolding furtherAnswers accepts
-returns-3 c = old-clauses _ _ _ (c .answer-by .result) (search (old-ways, told-yes, told-permitted))
+returns c = old-clauses _ _ _ (c .cancel-after-check .result) (c .cancel-after-check .ensures)
 
 pub cancel-spec : {M : Type 1} → statement M
 cancel-spec =
-    tie.close
-    (tie.spec
-    sound-requires
-    old-answer-requires
-    returns
-    allowed-requires
-    old-answer-requires-2
-    returns-2
-    cancel-on-sound-requires
-    answer-by-requires
-    returns-3)
+    tie.close (tie.spec sound-requires cancel-after-check-requires returns)

@@ -1,53 +1,18 @@
--- `four_state::revert::revert` meets its contract: the ways out of an old call; its clauses follow from the exact one. Assumes nothing.
+-- `four_state::revert::revert` meets its contract: the call after the check that it makes; its clauses follow from the exact one. Assumes nothing.
 use borrow.Author.Needs.{needs}
-use Rattle.base.proofs.Ladder.{told-yes}
-use Rattle.model.specs.Step.{ownRefusals}
-use Rattle.session_calls.proofs.MoveLaws.{told-equal, told-unequal}
-use Rattle.manager.specs.Accepts.{accepts}
-use Rattle.four_state.specs.OldCalls.{furtherAnswers}
-use Rattle.four_state.proofs.OldWays.{old-ways, old-clauses}
+use Rattle.four_state.proofs.OldWays.{old-clauses}
 use Rattle.four_state.proofs.revert.revert.Statement.{statement}
 use Rattle.four_state.proofs.revert.revert.Tie as tie
 
 sound-requires : tie.Need-sound-requires
 sound-requires c κs = search needs
 
-old-answer-requires : tie.Need-old-answer-requires
-old-answer-requires c κs = search needs
+revert-after-check-requires : tie.Need-revert-after-check-requires
+revert-after-check-requires c κs = search needs
 
 returns : tie.Need-returns
-returns c = old-clauses _ _ _ (c .old-answer .result) (search old-ways)
-
-phase-number-requires : tie.Need-phase-number-requires
-phase-number-requires c κs = search needs
-
-old-answer-requires-2 : tie.Need-old-answer-requires-2
-old-answer-requires-2 c κs = search needs
-
-returns-2 : tie.Need-returns-2
-unfolding furtherAnswers
-returns-2 c = old-clauses _ _ _ (c .old-answer2 .result) (search (old-ways, told-equal))
-
-revert-on-sound-requires : tie.Need-revert-on-sound-requires
-revert-on-sound-requires c κs = search told-yes
-
-answer-by-requires : tie.Need-answer-by-requires
-answer-by-requires c κs = search needs
-
-returns-3 : tie.Need-returns-3
-unfolding furtherAnswers accepts ownRefusals
-returns-3 c = old-clauses _ _ _ (c .answer-by .result) (search (old-ways, told-yes, told-unequal))
+returns c = old-clauses _ _ _ (c .revert-after-check .result) (c .revert-after-check .ensures)
 
 pub revert-spec : {M : Type 1} → statement M
 revert-spec =
-    tie.close
-    (tie.spec
-    sound-requires
-    old-answer-requires
-    returns
-    phase-number-requires
-    old-answer-requires-2
-    returns-2
-    revert-on-sound-requires
-    answer-by-requires
-    returns-3)
+    tie.close (tie.spec sound-requires revert-after-check-requires returns)

@@ -1,6 +1,8 @@
-// A case is a call, or each of the twelve on the state changed to one that is not sound or with a mark set, or shows the store.
+// A case is a call, or each of the twelve on the state changed to one that is not sound or with a mark set, or shows a payload or the
+// store.
 use crate::answers::show_answer;
 use crate::marks::marked;
+use crate::old_calls::make_old_call;
 use crate::unsound::made_unsound;
 use cancel_processing::cancel;
 use cases::case::field;
@@ -21,7 +23,7 @@ use transfer_exit::transfer_exit;
 use transfer_start::transfer_start;
 use work_on_payload::work;
 
-// Makes a call that is no transfer call, by its place among the sentences.
+// Makes a call that is neither Load nor a transfer call, by its place among the sentences.
 fn make_session_call(s: State, store: &mut [u8], first: u32, kind: usize) -> State {
     match kind {
         5 => show_answer(process(s, store, first)),
@@ -31,7 +33,9 @@ fn make_session_call(s: State, store: &mut [u8], first: u32, kind: usize) -> Sta
         9 => show_answer(activate(s, store)),
         10 => show_answer(rollback(s, store)),
         11 => show_answer(finish(s, store)),
-        _ => show_answer(report(s, store, kind == 12)),
+        12 => show_answer(report(s, store, true)),
+        13 => show_answer(report(s, store, false)),
+        _ => make_old_call(s, store, first, kind),
     }
 }
 
@@ -81,10 +85,10 @@ fn show_store(store: &[u8]) {
 // Plays a case that leaves the state as it is.
 fn show_case(s: State, store: &mut [u8], case: &[u8], kind: usize) {
     match kind {
-        14 => show_payload(s, store, number_of(field(case, 1))),
-        15 => show_store(store),
-        16 => make_each_call(made_unsound(s, number_of(field(case, 2))), store, case),
-        17 => make_each_call(marked(s, number_of(field(case, 2))), store, case),
+        18 => show_payload(s, store, number_of(field(case, 1))),
+        19 => show_store(store),
+        20 => make_each_call(made_unsound(s, number_of(field(case, 2))), store, case),
+        21 => make_each_call(marked(s, number_of(field(case, 2))), store, case),
         _ => show::bytes(b" no such kind of case"),
     }
 }
@@ -95,10 +99,10 @@ pub fn make_case(s: State, store: &mut [u8], case: &[u8]) -> State {
     show::with_fields(sentence, case);
     let kind = kind_of(
         sentence,
-        b"load, first id %:;start %:;data % %:;exit %:;delete %:;process %:;work %:;cancel %:;revert:;activate:;rollback:;finish:;report good:;report bad:;payload %:;store:;unsound, %:;mark set in the %:;",
-        18,
+        b"load, first id %:;start %:;data % %:;exit %:;delete %:;process %:;work %:;cancel %:;revert:;activate:;rollback:;finish:;report good:;report bad:;old activate:;old cancel %:;old revert:;old rollback:;payload %:;store:;unsound, %:;mark set in the %:;",
+        22,
     );
-    if kind < 14 {
+    if kind < 18 {
         return make_call(s, store, case, kind);
     }
     show_case(s, store, case, kind);

@@ -3,6 +3,7 @@
 mod answers;
 mod calls;
 mod marks;
+mod old_calls;
 mod unsound;
 
 use crate::calls::make_case;

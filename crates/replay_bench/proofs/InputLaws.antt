@@ -12,9 +12,25 @@ use borrow.Author.Tests.{not-true, not-false, lt-ltb, le-ltb, ltb-true}
 use Rattle.base.specs.Quoted.{LF}
 use Rattle.base.proofs.Tests.{bool-cases, clash}
 use Rattle.bytes.specs.Bytes.{indexOf, indexAfter, slice}
-use Rattle.script.specs.Gathered.{withPart}
-use Rattle.replay_bench.specs.Bench.{Held, afterLine, afterGathered, Reading, between, endsLine, afterPart}
-use Rattle.replay_bench.specs.Input.{afterByte, afterBytes, upToLineEnd, IfGoesOn}
+use Rattle.model.specs.State.{Store}
+use Rattle.script.specs.declared.gathered.Gathered.{Gathered}
+use Rattle.script.specs.Gathered.{lineSoFar, withPart, gatheredWith}
+use Rattle.script.proofs.GatheredLaws.{nothing-so-far}
+use Rattle.script_calls.specs.declared.kept.Kept.{Kept}
+use Rattle.script_calls.specs.declared.kept.Played.{Played}
+use Rattle.script_calls.specs.Kept.{lineOutcome}
+use Rattle.script_calls.specs.Line.{lineGives}
+use Rattle.replay_bench.specs.declared.bench.Bench.{Bench}
+use Rattle.replay_bench.specs.declared.bench.Gathering.{Gathering}
+use Rattle.replay_bench.specs.declared.gather.EndedLine.{EndedLine}
+use Rattle.replay_bench.specs.declared.gather.Part.{Part}
+use Rattle.replay_bench.specs.Bench.{gatheringOf, newLine, benchWith, Held, held, afterLine, afterGathered, EndsAs, Reading, between, reading, endsLine, afterLinePart}
+use Rattle.replay_bench.specs.Input.{afterByte, afterBytes, upToLineEnd, GathersPart, IfGoesOn}
+use Rattle.replay_bench.proofs.BenchLaws.{ended-played}
+
+-- after a part of the input that has no LF but its last byte, with so much room for a line
+unfoldable pub afterPart : ℕ → List ℕ → Reading → Reading
+afterPart room part r = afterLinePart (endsLine part) (withPart room (r .line) part) (r .holds)
 
 -- ---- the first line of a text
 
@@ -52,6 +68,9 @@ module _ (input : List ℕ) (at end : ℕ) (within : at < length input) (e : end
 
 -- ---- a part of a line is its bytes, one after the other
 
+ends-cons : (b : ℕ) (p : List ℕ) → 1 ≤ length p → endsLine (b ∷ p) ≡ endsLine p
+ends-cons b p h = let n : length (b ∷ p) - 1 ≡ suc (length p - 1) = omega arith in rw n
+
 module _ (room : ℕ) where
   with-cons : (x : Option (List ℕ)) (b : ℕ) (p : List ℕ) → withPart room x (b ∷ p) ≡ withPart room (withPart room x (b ∷ [])) p
   unfolding withPart
@@ -61,9 +80,6 @@ module _ (room : ℕ) where
       bool-cases (ltb room (length l + length (b ∷ [])))
       (λ t. rw (t, lt-ltb room (length l + length (b ∷ p)) (omega (arith, ltb-true room (length l + length (b ∷ [])) t))))
       (λ f. rw (f, n, append-assoc))
-
-  ends-cons : (b : ℕ) (p : List ℕ) → 1 ≤ length p → endsLine (b ∷ p) ≡ endsLine p
-  ends-cons b p h = let n : length (b ∷ p) - 1 ≡ suc (length p - 1) = omega arith in rw n
 
   part-byte : (b : ℕ) (r : Reading) → afterPart room (b ∷ []) r ≡ afterByte room b r
   unfolding afterPart afterByte
@@ -113,34 +129,106 @@ module _ (room : ℕ) where
     unfolding withPart afterGathered
     longer-changes-nothing o = whole ∙ rw (lt-ltb room (0 + length l) (omega arith))
 
+-- ---- what `gather_part` gathers
+
+-- a part that does not end a line is all that is left
+all-left : (l : List ℕ) → 1 ≤ length l → endsLine (upToLineEnd l) ≡ false → upToLineEnd l ≡ l
+unfolding upToLineEnd
+all-left [] h f = refl
+all-left (b ∷ []) h f = bool-cases (eqb b LF) (λ t. rw t) (λ n. rw n)
+all-left (b ∷ c ∷ l) h f =
+    bool-cases (eqb b LF)
+    (λ t. clash t (rw t at f))
+    (λ n. rw n (ap (λ (k : List ℕ). b ∷ k) (all-left (c ∷ l) (omega arith) (sym (ends-cons b (upToLineEnd (c ∷ l)) (first-byte c l)) ∙ rw n at f))))
+
+module _ (before : Gathering) (line input : List ℕ) (at end : ℕ) (e : end ≡ at + length (upToLineEnd (drop at input))) where
+  part-is : take (end - at) (drop at input) ≡ upToLineEnd (drop at input)
+  part-is =
+      let count : length (upToLineEnd (drop at input)) ≡ end - at = omega arith in
+      sym (first-take (drop at input) ∙ ap (λ (n : ℕ). take n (drop at input)) count)
+
+  pub gathers-part : (gathered : Gathered) (ends : Bool) (line′ : List ℕ)
+      → lineSoFar gathered line′ ≡ gatheredWith (before .gathered) line (take (end - at) (drop at input))
+      → ends ≡ endsLine (take (end - at) (drop at input))
+      → GathersPart before line (drop at input) at (record { gathering = gatheringOf gathered true; end = end; «ends_line» = ends }) line′
+  gathers-part gathered ends line′ so-far f =
+      record {
+        end = e;
+        soFar = so-far ∙ ap (gatheredWith (before .gathered) line) part-is;
+        goes = refl;
+        ends = f ∙ ap (λ (p : List ℕ). endsLine p) part-is;
+      }
+
 -- ---- what `take_lines` has taken of the input
 
 module _ (room : ℕ) (input : List ℕ) where
-  turn : (before after : Reading) (at end n : ℕ) → n ≡ room → at < length input → end ≡ at + length (upToLineEnd (drop at input))
-      → after ≡ afterPart n (take (end - at) (drop at input)) before
+  turn : (before after : Reading) (at end : ℕ) → at < length input → end ≡ at + length (upToLineEnd (drop at input))
+      → after ≡ afterPart room (upToLineEnd (drop at input)) before
       → afterBytes room (drop at input) before ≡ afterBytes room (drop end input) after
-  turn before after at end n same within e next =
+  turn before after at end within e next =
       let l = drop at input in
-      let count : length (upToLineEnd l) ≡ end - at = omega arith in
       text-bytes room l before (omega (arith, length-drop at input))
       ∙ ap (λ (k : List ℕ). afterBytes room k (afterPart room (upToLineEnd l) before)) (drop-drop (length (upToLineEnd l)) at input ∙ ap (λ (m : ℕ). drop m input) (sym e))
-      ∙ ap (λ (p : List ℕ). afterBytes room (drop end input) (afterPart room p before)) (first-take l ∙ ap (λ (m : ℕ). take m l) count)
-      ∙ ap (λ (m : ℕ). afterBytes room (drop end input) (afterPart m (take (end - at) l) before)) (sym same)
       ∙ ap (afterBytes room (drop end input)) (sym next)
 
-  pub on-first : (on : Bool) (r : Reading) → IfGoesOn on (afterBytes room input r) (afterBytes room (drop 0 input) r)
-  on-first on r = record { same = λ g. refl }
+  pub none-taken : (r : Reading) → afterBytes room input r ≡ afterBytes room (drop 0 input) r
+  none-taken r = refl
 
-  pub on-stopped : (on : Bool) (all r : Reading) → not on ≡ true → IfGoesOn on all r
-  on-stopped on all r h = record { same = λ g. clash g (not-true on h) }
+module _ (all : Reading) (k : Kept) (g : Gathering) (b : Bench) (e : b ≡ benchWith k g) where
+  -- a write has failed
+  pub stopped-before : (line : List ℕ) (bytes : Store) → not (g .«goes_on») ≡ true → IfGoesOn (b .gathering .«goes_on») all (reading b line bytes)
+  stopped-before line bytes h =
+      record { same = λ on. clash on (ap (λ (x : Bench). x .gathering .«goes_on») e ∙ not-true (g .«goes_on») h) }
 
-  pub on-more : (all before after : Reading) (at end n : ℕ) (on later : Bool) → n ≡ room → at < length input
-      → end ≡ at + length (upToLineEnd (drop at input)) → not on ≡ false → IfGoesOn on all (afterBytes room (drop at input) before)
-      → after ≡ afterPart n (take (end - at) (drop at input)) before → IfGoesOn later all (afterBytes room (drop end input) after)
-  on-more all before after at end n on later same within e o i next =
-      record { same = λ g. i .same (not-false on o) ∙ turn before after at end n same within e next }
+  given-back : (line : List ℕ) (bytes : Store) → all ≡ between (held k bytes) (lineSoFar (g .gathered) line)
+      → IfGoesOn (b .gathering .«goes_on») all (reading b line bytes)
+  given-back line bytes same = record { same = λ on. same ∙ ap (λ (x : Bench). reading x line bytes) (sym e) }
 
-  pub on-over : (on : Bool) (all r : Reading) (at : ℕ) → length input ≤ at → IfGoesOn on all (afterBytes room (drop at input) r) → IfGoesOn on all r
+  -- nothing is left
+  pub all-taken : (room : ℕ) (input line : List ℕ) (bytes : Store) (at : ℕ) → length input ≤ at
+      → all ≡ afterBytes room (drop at input) (between (held k bytes) (lineSoFar (g .gathered) line))
+      → IfGoesOn (b .gathering .«goes_on») all (reading b line bytes)
   unfolding afterBytes
-  on-over on all r at h i =
-      record { same = λ g. i .same g ∙ ap (λ (k : List ℕ). afterBytes room k r) (drop-of-length-le input {i = at} h) }
+  all-taken room input line bytes at h i =
+      given-back line bytes
+      (i ∙ ap (λ (l : List ℕ). afterBytes room l (between (held k bytes) (lineSoFar (g .gathered) line))) (drop-of-length-le input {i = at} h))
+
+module _ (all : Reading) (room : ℕ) (input : List ℕ) (k : Kept) (bytes : Store) (g : Gathering) (line : List ℕ) (at : ℕ)
+    (p : Part) (line′ : List ℕ) (same : length line ≡ room) (within : at < length input)
+    (so-far : all ≡ afterBytes room (drop at input) (between (held k bytes) (lineSoFar (g .gathered) line)))
+    (gathers : GathersPart g line (drop at input) at p line′) where
+  abbrev part : List ℕ
+  part = upToLineEnd (drop at input)
+
+  gathered : withPart room (lineSoFar (g .gathered) line) part ≡ lineSoFar (p .gathering .gathered) line′
+  gathered = ap (λ (n : ℕ). withPart n (lineSoFar (g .gathered) line) part) (sym same) ∙ sym (gathers .soFar)
+
+  after : (ended : Bool) → p .«ends_line» ≡ ended
+      → afterLinePart ended (lineSoFar (p .gathering .gathered) line′) (held k bytes) ≡ afterPart room part (between (held k bytes) (lineSoFar (g .gathered) line))
+  unfolding afterPart
+  after ended e =
+      ap (λ (l : Option (List ℕ)). afterLinePart ended l (held k bytes)) (sym gathered)
+      ∙ ap (λ (b : Bool). afterLinePart b (withPart room (lineSoFar (g .gathered) line) part) (held k bytes)) (sym e ∙ gathers .ends)
+
+  -- what is behind the last LF is gathered
+  pub rest-taken : (b : Bench) → b ≡ benchWith k (p .gathering) → not (p .«ends_line») ≡ true
+      → IfGoesOn (b .gathering .«goes_on») all (reading b line′ bytes)
+  rest-taken b e h =
+      let none-ended : p .«ends_line» ≡ false = not-true (p .«ends_line») h in
+      let whole : part ≡ drop at input = all-left (drop at input) (omega (arith, length-drop at input)) (sym (gathers .ends) ∙ none-ended) in
+      let over : length input ≤ p .end = omega (arith, gathers .end, ap length whole, length-drop at input) in
+      all-taken all k (p .gathering) b e room input line′ bytes (p .end) over
+      (so-far ∙ turn room input _ _ at (p .end) within (gathers .end) (after false none-ended))
+
+  -- a line that has ended is played, and another begins
+  pub line-taken : (x : EndedLine) (q : Played) (bytes′ : Store) (written : Bool) (next : Gathering)
+      → not (p .«ends_line») ≡ false → EndsAs (lineSoFar (p .gathering .gathered) line′) line′ x
+      → lineOutcome q bytes′ ≡ lineGives (take (x .text) line′) (x .read) k bytes → next ≡ newLine written
+      → all ≡ afterBytes room (drop (p .end) input) (between (held (q .kept) bytes′) (lineSoFar (next .gathered) line′))
+  line-taken x q bytes′ written next h ends plays begins =
+      let now-ended : p .«ends_line» ≡ true = not-false (p .«ends_line») h in
+      let empty : lineSoFar (next .gathered) line′ ≡ some [] = ap (λ (y : Gathering). lineSoFar (y .gathered) line′) begins ∙ nothing-so-far line′ in
+      let holds : held (q .kept) bytes′ ≡ afterGathered (lineSoFar (p .gathering .gathered) line′) (held k bytes) = ended-played _ line′ x ends k bytes bytes′ q plays in
+      so-far
+      ∙ turn room input _ (between (held (q .kept) bytes′) (lineSoFar (next .gathered) line′)) at (p .end) within (gathers .end)
+      (ap (λ (l : Option (List ℕ)). between (held (q .kept) bytes′) l) empty ∙ ap (λ (y : Held). between y (some [])) holds ∙ after true now-ended)

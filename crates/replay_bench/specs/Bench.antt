@@ -9,27 +9,30 @@ use lib.ListN.{length, take, getD}
 use Rattle.base.specs.Quoted.{LF}
 use Rattle.model.specs.State.{Store}
 use Rattle.script.specs.declared.gathered.Gathered.{Gathered}
-use Rattle.script.specs.Gathered.{nothingGathered, lineSoFar, withPart}
+use Rattle.script.specs.Gathered.{nothingGathered, lineSoFar}
 use Rattle.script.specs.Line.{scriptLineAt}
 use Rattle.script_calls.specs.declared.kept.Kept.{Kept}
 use Rattle.script_calls.specs.Kept.{NothingLoaded, LineOutcome}
 use Rattle.script_calls.specs.Line.{lineGives}
 use Rattle.replay_bench.specs.declared.bench.Bench.{Bench}
-use Rattle.replay_bench.specs.declared.play.AfterLine.{AfterLine}
+use Rattle.replay_bench.specs.declared.bench.Gathering.{Gathering}
+use Rattle.replay_bench.specs.declared.gather.EndedLine.{EndedLine}
 
 -- the bench before the first read
 pub record NothingRead (b : Bench) : Type 0 where
   pub loaded : NothingLoaded (b .kept)
-  pub gathered : b .gathered ≡ nothingGathered
-  pub goes : b .«goes_on» ≡ true
+  pub gathered : b .gathering .gathered ≡ nothingGathered
+  pub goes : b .gathering .«goes_on» ≡ true
 
--- the bench after a line or a part of one: it goes on where all was written
-abbrev pub benchAfter : Kept → Gathered → Bool → Bench
-benchAfter k g written = record { kept = k; gathered = g; «goes_on» = written }
+abbrev pub gatheringOf : Gathered → Bool → Gathering
+gatheringOf g on = record { gathered = g; «goes_on» = on }
 
--- what is kept after a line, and whether its answer was written
-abbrev pub lineAfter : Kept → Bool → AfterLine
-lineAfter k written = record { kept = k; «is_written» = written }
+-- behind a line: the program goes on where its answer was written
+abbrev pub newLine : Bool → Gathering
+newLine written = gatheringOf nothingGathered written
+
+abbrev pub benchWith : Kept → Gathering → Bench
+benchWith k g = record { kept = k; gathering = g }
 
 -- what the program holds: what is kept from line to line, and all the bytes of its store
 pub record Held : Type 0 where
@@ -47,18 +50,28 @@ heldAfter o = held (o .played .kept) (o .bytes)
 unfoldable pub afterText : List ℕ → Held → Held
 afterText text h = heldAfter (lineGives text (scriptLineAt text 0) (h .kept) (h .bytes))
 
+-- a line without its LF
+abbrev pub textOf : List ℕ → List ℕ
+textOf line = take (length line - 1) line
+
 -- after a line: "One call to a line, every line ends in LF"
 abbrev pub afterLine : List ℕ → Held → Held
-afterLine line h = afterText (take (length line - 1) line) h
+afterLine line h = afterText (textOf line) h
 
 -- after a line that has ended: "a line that is too long gives one `unknown`", and nothing changes
 unfoldable pub afterGathered : Option (List ℕ) → Held → Held
 afterGathered none h = h
 afterGathered (some line) h = afterLine line h
 
--- the same of what is gathered in a buffer
-abbrev pub afterEnded : Gathered → List ℕ → Kept → Store → Held
-afterEnded g line k bytes = afterGathered (lineSoFar g line) (held k bytes)
+-- the bytes of a line that has ended: none of one that is too long, since a line of no bytes is `unknown` and changes nothing too
+unfoldable pub endedLine : Option (List ℕ) → List ℕ
+endedLine none = []
+endedLine (some line) = line
+
+-- a line that has ended is the first bytes of its buffer, and is read without its LF
+pub record EndsAs (line : Option (List ℕ)) (buffer : List ℕ) (e : EndedLine) : Type 0 where
+  pub bytes : take (e .text) buffer ≡ textOf (endedLine line)
+  pub reads : e .read ≡ scriptLineAt (take (e .text) buffer) 0
 
 -- the program between two parts of the input: what it holds, and the line that is being gathered
 pub record Reading : Type 0 where
@@ -69,7 +82,7 @@ abbrev pub between : Held → Option (List ℕ) → Reading
 between h line = record { holds = h; line = line }
 
 abbrev pub reading : Bench → List ℕ → Store → Reading
-reading b line bytes = between (held (b .kept) bytes) (lineSoFar (b .gathered) line)
+reading b line bytes = between (held (b .kept) bytes) (lineSoFar (b .gathering .gathered) line)
 
 -- whether a part of the input ends a line
 abbrev pub endsLine : List ℕ → Bool
@@ -79,15 +92,3 @@ endsLine part = eqb (getD part (length part - 1) 0) LF
 abbrev pub afterLinePart : Bool → Option (List ℕ) → Held → Reading
 afterLinePart ended line h =
     cond ended (between (afterGathered line h) (some [])) (between h line)
-
--- the same of what is gathered in a buffer
-abbrev pub afterGatheredPart : Bool → Gathered → List ℕ → Kept → Store → Reading
-afterGatheredPart ended g line k bytes = afterLinePart ended (lineSoFar g line) (held k bytes)
-
--- after a part of the input that has no LF but its last byte, with so much room for a line
-unfoldable pub afterPart : ℕ → List ℕ → Reading → Reading
-afterPart room part r = afterLinePart (endsLine part) (withPart room (r .line) part) (r .holds)
-
--- the same of a bench, whose line buffer is that room
-abbrev pub benchAfterPart : Bench → List ℕ → Store → List ℕ → Reading
-benchAfterPart b line bytes part = afterPart (length line) part (reading b line bytes)

@@ -1,92 +1,33 @@
-// The lines of the input, which comes in parts.
+// A line of the input, which comes in parts: gathered, and read where it has ended.
 ghost use mathlib.Core.Path.{_≡_};
 ghost use mathlib.Core.Bool.{true};
-ghost use Prim.Native.Nat.{_+_, _≤_, _<_};
-ghost use lib.ListN.{length, drop};
-ghost use Rattle.replay_bench.specs.Bench.{held, afterEnded, reading, endsLine, afterGatheredPart, benchAfterPart};
-ghost use Rattle.replay_bench.specs.Input.{upToLineEnd, TakesInput};
-use crate::bench::Bench;
-use crate::bench::bench_after;
-use crate::play::AfterLine;
-use crate::play::after_line;
-use crate::play::play_line;
-use crate::show::show_unknown;
+ghost use Prim.Native.Nat.{_+_, _-_, _≤_, _<_};
+ghost use lib.ListN.{length, take, drop};
+ghost use Rattle.script.specs.Gathered.{lineSoFar};
+ghost use Rattle.replay_bench.specs.Bench.{endedLine, EndsAs, endsLine};
+ghost use Rattle.replay_bench.specs.Input.{upToLineEnd, GathersPart};
+use crate::bench::Gathering;
 use script::gathered::Gathered;
 use script::gathered::gather;
-use script::gathered::nothing_gathered;
-use script_calls::kept::Kept;
+use script::line::ScriptLine;
+use script::line::script_line_at;
+use text::cursor::Cursor;
 
-// Answers a line that has ended. Precondition, here and below: the buffer is at least as long as that of the line; `play_standard_input`
-// lends such buffers.
-fn end_line(
-    kept: Kept,
-    bytes: &mut [u8],
-    gathered: Gathered,
-    line: &[u8],
-    buffer: &mut [u8],
-) -> AfterLine
-    requires { ⌜ length (now line) ≤ length (now buffer) ⌝ }
-    ensures { λ r. ⌜ held (r .kept) (now (bytes .exit)) ≡ afterEnded gathered (now (line .entry)) kept (now (bytes .entry)) ⌝ }
-{
-    let count = gathered.count;
-    if gathered.is_too_long {
-        return after_line(kept, show_unknown());
-    }
-    if line.len() < count {
-        return after_line(kept, show_unknown());
-    }
-    play_line(kept, bytes, &line[..count], buffer)
+// The line with a part of the input more, where the part ends, and whether it ends the line.
+pub struct Part {
+    pub gathering: Gathering,
+    pub end: usize,
+    pub ends_line: bool,
 }
 
-// Says whether a part ends a line. Precondition: the part has a byte; `take_part` requires it.
-fn ends_line(part: &[u8]) -> bool
-    requires { ⌜ 1 ≤ length (now part) ⌝ }
-    ensures { λ r. ⌜ r ≡ endsLine (now (part .entry)) ⌝ }
-{
-    part[part.len() - 1] == b'\n'
+// A line that has ended: how many bytes it has with its LF, how many without, and what it reads as.
+pub struct EndedLine {
+    pub count: usize,
+    pub text: usize,
+    pub read: ScriptLine,
 }
 
-// Gives the bench with what is gathered of a line, and answers the line where it has ended.
-fn answer_part(
-    kept: Kept,
-    bytes: &mut [u8],
-    gathered: Gathered,
-    has_ended: bool,
-    line: &[u8],
-    buffer: &mut [u8],
-) -> Bench
-    requires { ⌜ length (now line) ≤ length (now buffer) ⌝ }
-    ensures { λ r. ⌜ reading r (now (line .entry)) (now (bytes .exit))
-        ≡ afterGatheredPart «has_ended» gathered (now (line .entry)) kept (now (bytes .entry)) ⌝ }
-{
-    if !has_ended {
-        return bench_after(kept, gathered, true);
-    }
-    let after = end_line(kept, bytes, gathered, line, buffer);
-    let next = after.kept;
-    bench_after(next, nothing_gathered(), after.is_written)
-}
-
-// Takes a part of the input up to the next LF, or up to its end. Precondition: also, the part has a byte, as `behind_line` gives
-// it, and the program goes on, which `take_lines` has tested.
-fn take_part(
-    bench: Bench,
-    bytes: &mut [u8],
-    line: &mut [u8],
-    part: &[u8],
-    buffer: &mut [u8],
-) -> Bench
-    requires { ⌜ (1 ≤ length (now part)) × (length (now line) ≤ length (now buffer)) × (bench .«goes_on» ≡ true) ⌝ }
-    ensures { λ r. ⌜ reading r (now (line .exit)) (now (bytes .exit))
-        ≡ benchAfterPart bench (now (line .entry)) (now (bytes .entry)) (now (part .entry)) ⌝ }
-{
-    let before = bench.gathered;
-    let gathered = gather(line, before, part);
-    let kept = bench.kept;
-    answer_part(kept, bytes, gathered, ends_line(part), line, buffer)
-}
-
-// Finds the position behind the next LF, or the end. Precondition: the position is within the input; `take_lines` has tested it.
+// Finds the position behind the next LF, or the end. Precondition: the position is within the input; `gather_part` requires it.
 fn behind_line(input: &[u8], at: usize) -> usize
     requires { ⌜ at < length (now input) ⌝ }
     ensures { λ r. ⌜ (at < r) × (r ≤ length (now (input .entry))) × (r ≡ at + length (upToLineEnd (drop at (now (input .entry))))) ⌝ }
@@ -98,35 +39,70 @@ fn behind_line(input: &[u8], at: usize) -> usize
     end
 }
 
-// Takes every line of a part of the input, and what is left behind the last. Where a write fails, the rest is not taken.
-pub fn take_lines(
-    bench: Bench,
-    bytes: &mut [u8],
-    line: &mut [u8],
-    input: &[u8],
-    buffer: &mut [u8],
-) -> Bench
-    requires { ⌜ length (now line) ≤ length (now buffer) ⌝ }
-    ensures { λ r. ⌜ TakesInput bench (now (line .entry)) (now (bytes .entry)) (now (input .entry))
-        r (now (line .exit)) (now (bytes .exit)) ⌝ }
+// Says whether a part ends a line. Precondition: the part has a byte, as `behind_line` gives it.
+fn ends_line(part: &[u8]) -> bool
+    requires { ⌜ 1 ≤ length (now part) ⌝ }
+    ensures { λ r. ⌜ r ≡ endsLine (now (part .entry)) ⌝ }
 {
-    let mut now = bench;
-    let mut at = 0;
-    while at < input.len() {
-        if !now.goes_on {
-            return now;
-        }
-        let end = behind_line(input, at);
-        now = take_part(now, bytes, line, &input[at..end], buffer);
-        at = end;
-    }
-    now
+    part[part.len() - 1] == b'\n'
 }
 
-// Answers a line without LF at the end of the input: it is `unknown`.
-pub fn take_end(bench: Bench) {
-    let gathered = bench.gathered;
-    if gathered.is_too_long | (0 < gathered.count) {
-        show_unknown();
+// Gathers the part of the input from a position up to the next LF, or up to its end. Precondition: the position is within the input, and
+// the program goes on; `take_lines` has tested both.
+pub fn gather_part(line: &mut [u8], before: Gathering, input: &[u8], at: usize) -> Part
+    requires { ⌜ (at < length (now input)) × (before .«goes_on» ≡ true) ⌝ }
+    ensures { λ r. ⌜ (at < r .end) × (r .end ≤ length (now (input .entry)))
+        × GathersPart before (now (line .entry)) (drop at (now (input .entry))) at r (now (line .exit)) ⌝ }
+{
+    let end = behind_line(input, at);
+    let so_far = before.gathered;
+    let gathered = gather(line, so_far, &input[at..end]);
+    let gathering = Gathering {
+        gathered: gathered,
+        goes_on: true,
+    };
+    Part {
+        gathering: gathering,
+        end: end,
+        ends_line: ends_line(&input[at..end]),
+    }
+}
+
+// Counts the bytes of a line that has ended: none of one that is too long, which is played as a line of no bytes.
+fn ended_count(gathered: Gathered, line: &[u8]) -> usize
+    ensures { λ r. ⌜ (r ≤ length (now (line .entry))) × (take r (now (line .entry)) ≡ endedLine (lineSoFar gathered (now (line .entry)))) ⌝ }
+{
+    let count = gathered.count;
+    if gathered.is_too_long {
+        return 0;
+    }
+    if line.len() < count {
+        return 0;
+    }
+    count
+}
+
+// Counts the bytes of a line before its LF.
+fn text_length(count: usize) -> usize
+    ensures { λ r. ⌜ r ≡ count - 1 ⌝ }
+{
+    if count < 1 {
+        return 0;
+    }
+    count - 1
+}
+
+// Reads a line that has ended.
+pub fn ended_line(gathered: Gathered, line: &[u8]) -> EndedLine
+    ensures { λ r. ⌜ (r .count ≤ length (now (line .entry))) × (r .text ≤ length (now (line .entry)))
+        × EndsAs (lineSoFar gathered (now (line .entry))) (now (line .entry)) r ⌝ }
+{
+    let count = ended_count(gathered, line);
+    let text = text_length(count);
+    let read = script_line_at(&line[..text], Cursor { at: 0 });
+    EndedLine {
+        count: count,
+        text: text,
+        read: read,
     }
 }

@@ -1,11 +1,12 @@
 // The bench that the program `replay` is: plays a script of calls from standard input against one manager and writes every answer to
 // standard output. Each line is answered before more is read. It ends at the end of the input, or where a read or a write
 // fails: standard error then says why.
+mod answer;
 mod bench;
 mod gather;
+mod lines;
 mod packages;
 mod packages_by_value;
-mod play;
 mod reading;
 mod show;
 mod waves;
@@ -18,8 +19,8 @@ ghost use Rattle.script.specs.Limits.{storeMost, lineMost};
 use crate::bench::Bench;
 use crate::bench::first_bench;
 use crate::bench::stopped;
-use crate::gather::take_end;
-use crate::gather::take_lines;
+use crate::lines::take_end;
+use crate::lines::take_lines;
 use libc::STDIN_FILENO;
 use script::limits::LINE_MOST;
 use script::limits::STORE_MOST;
@@ -48,14 +49,14 @@ fn read_some(
     buffer: &mut [u8],
 ) -> Bench
     requires { ⌜ length (now line) ≤ length (now buffer) ⌝ }
-    requires { ⌜ bench .«goes_on» ≡ true ⌝ }
+    requires { ⌜ bench .gathering .«goes_on» ≡ true ⌝ }
 {
     let got = libc::read(STDIN_FILENO, input);
     if got < 0 {
         os::fail(b"replay: standard input");
     }
     if got == 0 {
-        take_end(bench);
+        take_end(bench.gathering);
     }
     if got < 1 {
         return stopped(bench);
@@ -72,7 +73,8 @@ fn read_all(bytes: &mut [u8], line: &mut [u8], input: &mut [u8], buffer: &mut [u
     let mut bench = first_bench();
     let mut turns = u64::MAX;
     while turns > 0 {
-        if !bench.goes_on {
+        let gathering = bench.gathering;
+        if !gathering.goes_on {
             return;
         }
         bench = read_some(bench, bytes, line, input, buffer);

@@ -1,8 +1,8 @@
--- `replay_bench::play::show_line_answer` is safe: what is lent is a part of the bytes. Assumes nothing.
+-- `replay_bench::answer::show_line_answer` is safe: what is lent is a part of the bytes. Assumes nothing.
 use borrow.Author.Needs.{needs}
 use Rattle.script_calls.proofs.LentLaws.{lent-long}
-use Rattle.replay_bench.proofs.play.show_line_answer.Statement.{statement}
-use Rattle.replay_bench.proofs.play.show_line_answer.Tie as tie
+use Rattle.replay_bench.proofs.answer.show_line_answer.Statement.{statement}
+use Rattle.replay_bench.proofs.answer.show_line_answer.Tie as tie
 
 enum-known-answer : tie.Need-enum-known-answer
 enum-known-answer c = search needs

@@ -1,5 +1,6 @@
--- `cluster_list::read::value_lines` meets its contract. The loop's invariant: the array and the end are those of a table within the limits,
--- and the lines of the whole read from nothing give what the lines from `at` on give after it. The measure is the bytes left. Assumes nothing.
+-- `cluster_list::read::value_lines` meets its contract. The loop's invariant: the array and the end are those of a table within the
+-- limits, and the lines of the whole read from nothing give what the lines from `at` on give after it. The measure is the bytes left.
+-- Assumes nothing.
 use Prim.Native.Nat.{_-_, _≤_}
 use native.Mathlib.Omega.{arith}
 use lib.ListN.{length}

@@ -6,7 +6,7 @@ use mathlib.Core.Bool.{Bool, true, false}
 use mathlib.Core.List.{List, [], _∷_}
 use mathlib.Core.Option.{Option, none, some}
 use native.Mathlib.Omega.{arith}
-use lib.ListN.{length, take, length-append, length-take, length-drop, length-replicate}
+use lib.ListN.{length, take, length-append, length-take, length-drop}
 use borrow.Author.Tests.{leb-false}
 use Rattle.base.specs.Refusals.{firstRefusal}
 use Rattle.base.proofs.Tests.{cond-cases}
@@ -31,7 +31,7 @@ use Rattle.state.specs.declared.phase.Phase.the-variants.{Idle, Ready, Processi
 use Rattle.state.specs.declared.work.Work.{Work}
 use Rattle.state.specs.declared.state.State.{State}
 use Rattle.state.specs.declared.answer.Answered.{Answered}
-use Rattle.state.specs.View.{viewPackages, clearedEntry, entriesMost, viewState}
+use Rattle.state.specs.View.{viewPackages, viewState}
 use Rattle.state.specs.Exact.{state}
 use Rattle.state.specs.Outcome.{settled, called}
 use Rattle.state.proofs.PackagesAlong.{packages-length}
@@ -108,7 +108,7 @@ module _ (s : State) (store : Store) (shape : Shaped s) where
   report-shaped (CleaningUp origin) true =
       record {
         packages = remaining-room AllProcessed (s .transfers) (shape .packages);
-        entries = length-replicate entriesMost clearedEntry;
+        entries = shape .entries;
         clusters = running-room (CleaningUp origin) (s .session) (shape .clusters);
       }
   report-shaped (CleaningUp origin) false = same-shape

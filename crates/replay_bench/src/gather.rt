@@ -70,7 +70,8 @@ pub fn gather_part(line: &mut [u8], before: Gathering, input: &[u8], at: usize) 
 
 // Counts the bytes of a line that has ended: none of one that is too long, which is played as a line of no bytes.
 fn ended_count(gathered: Gathered, line: &[u8]) -> usize
-    ensures { λ r. ⌜ (r ≤ length (now (line .entry))) × (take r (now (line .entry)) ≡ endedLine (lineSoFar gathered (now (line .entry)))) ⌝ }
+    ensures { λ r. ⌜ (r ≤ length (now (line .entry)))
+        × (take r (now (line .entry)) ≡ endedLine (lineSoFar gathered (now (line .entry)))) ⌝ }
 {
     let count = gathered.count;
     if gathered.is_too_long {

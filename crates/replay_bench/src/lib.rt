@@ -39,8 +39,8 @@ fn line_bytes() -> [u8; LINE_MOST]
     [0; LINE_MOST]
 }
 
-// Reads once and plays what came. Precondition: the buffer is at least as long as that of the line, as `play_standard_input` lends them, and
-// the bench goes on, which `read_all` has tested.
+// Reads once and plays what came. Precondition: the buffer is at least as long as that of the line, as `play_standard_input` lends them,
+// and the bench goes on, which `read_all` has tested.
 fn read_some(
     bench: Bench,
     bytes: &mut [u8],

@@ -1,6 +1,4 @@
 -- `replay_bench::gather::gather_part` meets its contract: the part is the rest of the input up to its first LF. Assumes nothing.
-use native.Mathlib.Omega.{arith}
-use lib.ListN.{length-take, length-drop}
 use borrow.Author.Needs.{needs}
 use Rattle.replay_bench.proofs.InputLaws.{gathers-part}
 use Rattle.replay_bench.proofs.gather.gather_part.Statement.{statement}

@@ -18,7 +18,7 @@ const MALFORMED_LIST: u32 = 256;
 const SHORT_ANSWERS: u32 = 257;
 
 // Gives the number that a program in C is answered for what became of a list.
-fn result_number(reply: ListReply) -> u32
+pub fn result_number(reply: ListReply) -> u32
     ensures { λ r. ⌜ r ≡ resultNumber reply ⌝ }
 {
     match reply {
@@ -30,7 +30,7 @@ fn result_number(reply: ListReply) -> u32
 }
 
 // Gives a state that nothing was loaded into: its next id is 0, so it is not sound.
-fn nothing_loaded() -> State
+pub fn nothing_loaded() -> State
     ensures { λ r. ⌜ r ≡ nothingLoaded ⌝ }
 {
     loaded_state(empty_table(), 0)

@@ -49,12 +49,12 @@ pub struct RepliedList {
 }
 
 // The two words of a call's answer, and the state then.
-struct RowAnswered {
-    words: AnswerWords,
-    state: State,
+pub struct RowAnswered {
+    pub words: AnswerWords,
+    pub state: State,
 }
 
-fn row_answered(words: AnswerWords, s: State) -> RowAnswered
+pub fn row_answered(words: AnswerWords, s: State) -> RowAnswered
     ensures { λ r. ⌜ r ≡ rowAnswered words s ⌝ }
 {
     RowAnswered {
@@ -111,9 +111,9 @@ fn make_call(s: State, is_sound: bool, store: &mut [u8], row: Row, bytes: &[u8])
     }
 }
 
-// Puts the two words of an answer into the slice at a place. Precondition: the slice has room for them; `run` and `load_and_run` check it
-// before the first call.
-fn put_answer(answers: &mut [u32], at: usize, words: AnswerWords)
+// Puts the two words of an answer into the slice at a place. Precondition: the slice has room for them; who makes a list checks it before
+// the first call.
+pub fn put_answer(answers: &mut [u32], at: usize, words: AnswerWords)
     requires { ⌜ at + 2 ≤ length (now answers) ⌝ }
     ensures { λ r. ⌜ now (answers .exit) ≡ sets (now (answers .entry)) at (words .kind ∷ words .value ∷ []) ⌝ }
 {

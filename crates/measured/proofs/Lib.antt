@@ -1,0 +1,2 @@
+pub mod NumberedWays
+pub mod TurnLaws

@@ -34,8 +34,8 @@ pub extern "C" fn measured_read_package(area: &[u8]) -> u32
     cluster.part
 }
 
-// Says by 1 or 0 whether a turn is 1 and the table meets all needs: what is asked hangs on what is lent, so the compiler cannot ask once for
-// all turns. Precondition: the table is within its limits; one that was read is.
+// Says by 1 or 0 whether a turn is 1 and the table meets all needs. Whether it is asked hangs on what is lent, so the compiler cannot ask
+// once for all turns. Precondition: the table is within its limits; `measured_needs_met` hands over one that was read.
 fn met_at(table: Table, turn: u8) -> usize
     requires { ⌜ tableWithin (viewTable table) ≡ true ⌝ }
     ensures { λ r. ⌜ r ≡ metAt (needsMet (viewTable table)) turn ⌝ }

@@ -1,5 +1,6 @@
--- `measured::calls::make_each` meets its contract. The loop's invariant is `MadeSoFar`: the calls of the words before i were made, their answers
--- stand before `at`, and what is left of the words is a list of calls. The measure is the number of words left. Assumes nothing.
+-- `measured::calls::make_each` meets its contract. The loop's invariant is `MadeSoFar` of `call_list`: the calls of the words before i were
+-- made, their answers stand before `at`, and what is left of the words is a list of calls. The measure is the number of words left. Assumes
+-- nothing.
 use Prim.Native.Nat.{_+_, _-_, _^_, _≤_, _<_}
 use borrow.Author.Needs.{needs}
 use native.Mathlib.Omega.{arith}

@@ -1,5 +1,5 @@
--- `measured::calls::make_row` meets its contract: a malformed row is no call, and of any other the call of its request, of the twelve with its
--- block or of the old four, is made. Assumes nothing.
+-- `measured::calls::make_row` meets its contract: a malformed row is no call, and of any other the call of its request, of the twelve with
+-- its block or of the old four, is made. Assumes nothing.
 use borrow.Author.Needs.{needs}
 use Rattle.call_rows.proofs.RowLaws.{block-within}
 use Rattle.call_list.proofs.RowCall.{no-row, twelve-row, old-row}

@@ -3,7 +3,7 @@
 #include "cases.h"
 #include "clock.h"
 #include "compare.h"
-#include "measured.h"
+#include "parts.h"
 #include "ways.h"
 
 #include <stdio.h>
@@ -149,127 +149,13 @@ static void print_calls(void)
     }
 }
 
-/* Prints the row of a part. */
-static void print_part(const char *name, double proved, double c, const char *unit)
-{
-    printf("| %s | %.*f | %.*f | %.2f | %s |\n", name, proved < 100 ? 2 : 0, proved, c < 100 ? 2 : 0, c, proved / c, unit);
-}
-
-/* ---- parts of the calls */
-
-/* Times the sum over a megabyte. */
-static void print_sums(void)
-{
-    enum { LENGTH = 1 << 20 };
-    double proved = 0, naive = 0, table = 0;
-    for (int i = 0; i < LENGTH; i++)
-        store_bytes[i] = (uint8_t)(i * 31 + i / 251);
-    for (int round = 0; round < ROUNDS; round++) {
-        double t0 = now_ns();
-        sink = measured_sum(store_bytes, LENGTH);
-        double t1 = now_ns();
-        sink = c_sum_naive((struct sums){ 0, 0 }, store_bytes, LENGTH).c1;
-        double t2 = now_ns();
-        sink = c_sum_by_table((struct sums){ 0, 0 }, store_bytes, LENGTH).c1;
-        double t3 = now_ns();
-        keep_least(&proved, t1 - t0);
-        keep_least(&naive, t2 - t1);
-        keep_least(&table, t3 - t2);
-    }
-    print_part("the sum, against C's naive loop", proved / LENGTH, naive / LENGTH, "ns a byte");
-    print_part("the sum, against C's table", proved / LENGTH, table / LENGTH, "ns a byte");
-}
-
-/* Reads a list in C and asks its needs at so many turns. The table's address is read anew at each turn, so that it is asked anew. */
-static size_t c_turns_met(const struct text *list, size_t turns)
-{
-    static struct table table;
-    size_t met = 0;
-    if (!c_read_list(list->bytes, list->length, &table))
-        return 0;
-    for (size_t i = 0; i < turns; i++) {
-        struct table *volatile asked = &table;
-        met += c_needs_met(asked);
-    }
-    return met;
-}
-
-/* Gives the least times of reading a list alone and of reading it and asking its needs at each turn. */
-static void time_list(const struct text *list, size_t turns, double proved[2], double c[2])
-{
-    static uint8_t ones[1000];
-    memset(ones, 1, sizeof ones);
-    for (int round = 0; round < 20 * ROUNDS; round++)
-        for (int with = 0; with < 2; with++) {
-            double t0 = now_ns();
-            sink = (uint32_t)measured_needs_met(list->bytes, list->length, ones, with ? turns : 0);
-            double t1 = now_ns();
-            sink = (uint32_t)c_turns_met(list, with ? turns : 0);
-            double t2 = now_ns();
-            keep_least(&proved[with], t1 - t0);
-            keep_least(&c[with], t2 - t1);
-        }
-}
-
-/* Times reading the longest list, and reading and asking the lists of both states. */
-static void print_lists(void)
-{
-    enum { TURNS = 100 };
-    struct text list = { 0 };
-    char name[80];
-    double proved[2] = { 0 }, c[2] = { 0 };
-    write_longest_list(&list);
-    time_list(&list, 0, proved, c);
-    snprintf(name, sizeof name, "read_list, the longest: %zu bytes", list.length);
-    print_part(name, proved[0], c[0], "ns");
-    for (int i = 0; i < 2; i++) {
-        const struct state_size *size = i == 0 ? &LARGE : &SMALL;
-        memset(proved, 0, sizeof proved);
-        memset(c, 0, sizeof c);
-        write_list(&list, size->clusters, size->needs);
-        time_list(&list, TURNS, proved, c);
-        snprintf(name, sizeof name, "read_list, %s state: %zu bytes", size->name, list.length);
-        print_part(name, proved[0], c[0], "ns");
-        snprintf(name, sizeof name, "needs_met, %s state", size->name);
-        print_part(name, (proved[1] - proved[0]) / TURNS, (c[1] - c[0]) / TURNS, "ns");
-    }
-    free(list.bytes);
-}
-
-/* Times reading the text of a package. */
-static void print_package(size_t payload)
-{
-    enum { TIMES = 1000 };
-    struct text text = { 0 };
-    char name[80];
-    double proved = 0, c = 0;
-    write_package(&text, (struct package_plan){ UPDATE, 4294967295, 4294967295, payload, 4, false });
-    for (int round = 0; round < ROUNDS; round++) {
-        double t0 = now_ns();
-        for (int i = 0; i < TIMES; i++)
-            sink = measured_read_package(text.bytes, text.length);
-        double t1 = now_ns();
-        for (int i = 0; i < TIMES; i++)
-            sink = c_read_package(text.bytes, text.length).action.cluster.part;
-        double t2 = now_ns();
-        keep_least(&proved, t1 - t0);
-        keep_least(&c, t2 - t1);
-    }
-    snprintf(name, sizeof name, "read_package, four needs, payload %zu", payload);
-    print_part(name, proved / TIMES, c / TIMES, "ns");
-    free(text.bytes);
-}
-
 /* Times Load of a state's list with a store of a length. */
 static void print_load(const struct state_size *size, size_t store_length)
 {
-    static const struct measured_case NOTHING = { .name = "Load" };
-    struct prepared p = { 0 };
-    struct measured_case load = NOTHING;
+    struct measured_case load = { .store_length = store_length };
+    struct prepared p = { .measured = &load };
     char name[80];
     double ns[WAYS] = { 0 };
-    load.store_length = store_length;
-    p.measured = &load;
     write_list(&p.list, size->clusters, size->needs);
     for (int round = 0; round < 5 * ROUNDS; round++)
         for (int way = 0; way < WAYS; way++)
@@ -285,10 +171,7 @@ int main(void)
         return 1;
     print_calls();
     printf("\n| part | proved | in C | ratio | unit |\n|---|---|---|---|---|\n");
-    print_sums();
-    print_lists();
-    print_package(0);
-    print_package(65536);
+    print_parts();
     print_load(&LARGE, 4096);
     print_load(&SMALL, 4096);
     print_load(&LARGE, STORE_MOST);

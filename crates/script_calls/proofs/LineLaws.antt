@@ -92,12 +92,6 @@ module _ (word l : List ℕ) (fits : length word ≤ length l) (end : ℕ) (m : 
       → o ≡ loading first size (blockBytes word) k bytes
   load-word first size k bytes o e = e ∙ ap (λ (b : List ℕ). loading first size b k bytes) (block-taken word l fits end m p)
 
-  pub load-word-empty : (first size : ℕ) (k : Kept) (bytes : Store) (o : LineOutcome) → size < 1 → o ≡ loading first 0 (take end m) k bytes
-      → o ≡ loading first size (blockBytes word) k bytes
-  load-word-empty first size k bytes o h e =
-      let none-lent : size ≡ 0 = omega arith in
-      load-word first 0 k bytes o e ∙ ap (λ (n : ℕ). loading first n (blockBytes word) k bytes) (sym none-lent)
-
 -- ---- another writer
 
 module _ (store text : List ℕ) (at : ℕ) where

@@ -39,9 +39,8 @@ fn play_list(kept: Kept, bytes: &mut [u8], first: u32, size: u32, list: &[u8]) -
     answered_with(made, length_after(answer, before, count))
 }
 
-// Does the same with the list that a word stands for. A call for a store of no bytes and one for any other keep `play_list` a function of
-// its own: compiled into `play`, the places that Load clears make the compiler copy the State in small parts at every line. Precondition:
-// the buffer is at least as long as the word; `play` requires one as long as the line.
+// Does the same with the list that a word stands for. Precondition: the buffer is at least as long as the word; `play` requires one
+// as long as the line.
 pub fn play_load(
     kept: Kept,
     bytes: &mut [u8],
@@ -54,8 +53,5 @@ pub fn play_load(
     ensures { λ r. ⌜ lineOutcome r (now (bytes .exit)) ≡ loading first size (blockBytes (now (word .entry))) kept (now (bytes .entry)) ⌝ }
 {
     let end = put_block_bytes(buffer, 0, word);
-    if size < 1 {
-        return play_list(kept, bytes, first, 0, &buffer[..end]);
-    }
     play_list(kept, bytes, first, size, &buffer[..end])
 }

@@ -1,7 +1,7 @@
 -- `script_calls::load_list::play_load` meets its contract: the list is the part of the buffer that the bytes of the word fill. Assumes nothing.
 use borrow.Author.Needs.{needs}
 use Rattle.script_calls.proofs.LentLaws.{block-fits, block-within, block-long}
-use Rattle.script_calls.proofs.LineLaws.{load-word, load-word-empty}
+use Rattle.script_calls.proofs.LineLaws.{load-word}
 use Rattle.script_calls.proofs.load_list.play_load.Statement.{statement}
 use Rattle.script_calls.proofs.load_list.play_load.Tie as tie
 
@@ -24,25 +24,7 @@ same-length-2 : tie.Need-same-length-2
 same-length-2 c = search needs
 
 returns : tie.Need-returns
-returns c = search load-word-empty
-
-slice-reshare-prefix-play-list-2 : tie.Need-slice-reshare-prefix-play-list-2
-slice-reshare-prefix-play-list-2 c = search block-within
-
-slice-aggregate-play-list-2 : tie.Need-slice-aggregate-play-list-2
-slice-aggregate-play-list-2 c = search block-long
-
-play-list-requires-2 : tie.Need-play-list-requires-2
-play-list-requires-2 c κs = search needs
-
-same-length-3 : tie.Need-same-length-3
-same-length-3 c = search needs
-
-same-length-4 : tie.Need-same-length-4
-same-length-4 c = search needs
-
-returns-2 : tie.Need-returns-2
-returns-2 c = search load-word
+returns c = search load-word
 
 pub play-load-spec : {M : Type 1} → statement M
 play-load-spec =
@@ -54,10 +36,4 @@ play-load-spec =
     play-list-requires
     same-length
     same-length-2
-    returns
-    slice-reshare-prefix-play-list-2
-    slice-aggregate-play-list-2
-    play-list-requires-2
-    same-length-3
-    same-length-4
-    returns-2)
+    returns)

@@ -31,11 +31,11 @@ static struct package_plan update_of(const struct plan *plan, size_t place)
     return (struct package_plan){ UPDATE, (uint32_t)(10 * (place + 1)), 1, PAYLOAD, plan->size->needs, false };
 }
 
-/* Transfers updates of the first clusters, with ids 1, 2, .. */
+/* Transfers updates of the last clusters, which are found last, with ids 1, 2, .. */
 static void transfer(struct plan *plan, size_t count)
 {
     for (size_t i = 0; i < count; i++)
-        send_and_exit(plan, update_of(plan, i));
+        send_and_exit(plan, update_of(plan, plan->size->clusters - 1 - i));
 }
 
 /* Processes a package to its end. */

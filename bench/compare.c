@@ -131,6 +131,20 @@ static size_t compare_needs(struct text text)
     return met != proved;
 }
 
+/* Compares what Load of a list answers, and the store then. */
+static size_t compare_load(struct text text, uint32_t first)
+{
+    static uint8_t in_c[64], proved[64];
+    memset(in_c, 1, sizeof in_c);
+    memset(proved, 1, sizeof proved);
+    uint32_t number = c_load_and_run(text.bytes, text.length, first, (struct store){ in_c, sizeof in_c }, (struct list){ 0 }, NULL, 0);
+    uint32_t given = measured_load(text.bytes, text.length, first, proved, sizeof proved);
+    bool equal = number == given && memcmp(in_c, proved, sizeof in_c) == 0;
+    if (!equal)
+        printf("DIFFERENT Load: %u in the proved code, %u in C, of\n%.*s\n", given, number, (int)text.length, (char *)text.bytes);
+    return !equal;
+}
+
 /* Compares the sum of some bytes, three ways. */
 static size_t compare_sums(struct text text)
 {
@@ -156,7 +170,7 @@ size_t compare_generated_texts(size_t count)
         chance_list(&text);
         for (uint32_t times = chance(2); times > 0; times--)
             damage(&text, 0);
-        differences += compare_needs(text) + compare_sums(text);
+        differences += compare_needs(text) + compare_load(text, chance_first()) + compare_sums(text);
     }
     free(text.bytes);
     return differences;

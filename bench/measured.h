@@ -9,7 +9,10 @@
 uint32_t measured_calls(const uint8_t *list, size_t list_length, uint32_t first, uint8_t *store, size_t store_length, const uint32_t *words,
     size_t word_count, const uint8_t *bytes, size_t byte_count, uint32_t *answers, size_t room);
 
-/* The same by the list's own loop, as a program in C calls it (include/wozkindu.h). */
+/* Load alone. */
+uint32_t measured_load(const uint8_t *list, size_t list_length, uint32_t first, uint8_t *store, size_t store_length);
+
+/* Load and the calls by the list's own loop, as a program in C calls it (include/wozkindu.h). */
 uint32_t wozkindu_load_and_run(const uint8_t *list, size_t list_length, uint32_t first, uint8_t *store, size_t store_length,
     const uint32_t *words, size_t word_count, const uint8_t *bytes, size_t byte_count, uint32_t *answers, size_t room);
 

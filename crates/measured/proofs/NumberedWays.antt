@@ -1,9 +1,10 @@
--- The ways out of `measured_calls`: those of `load_and_run` of `call_list`, by the number and from the state that nothing was loaded into.
+-- The ways out of `measured_calls` and `measured_load`: those of `load_and_run` of `call_list`, by the number and from the state that nothing was loaded into.
 -- Assumes nothing.
 use Prim.Native.Nat.{ℕ, _/_, _≤_, _<_}
 use mathlib.Core.Path.{_≡_, refl, ap, _∙_}
 use mathlib.Core.Bool.{true, false}
-use mathlib.Core.List.{List}
+use mathlib.Core.List.{List, []}
+use native.Mathlib.Omega.{arith}
 use lib.ListN.{length}
 use Rattle.model.specs.State.{Store}
 use Rattle.model.specs.Load as model
@@ -19,9 +20,18 @@ use Rattle.call_list.specs.declared.ListReply.{ListReply}
 use Rattle.call_list.specs.declared.ListReply.the-variants.{Made, BadLoad, Malformed, ShortAnswers}
 use Rattle.call_list.specs.WholeList.{replied, listOutcome, RowsMade}
 use Rattle.call_list.specs.Loaded.{loadAndRunOutcome}
+use Rattle.call_list.proofs.ListLaws.{none-so-far, all-made}
 use Rattle.call_list.proofs.LoadedWays as ways
 use Rattle.c_interface.specs.Results.{resultNumber}
 use Rattle.c_interface.specs.LoadAndRun.{nothingLoaded, numberedOutcome, numbered, loadAndRunNumbered}
+
+-- no row, no call
+pub no-rows : isGiven (decoded [] []) ≡ true
+unfolding decoded
+no-rows = refl
+
+pub none-made : (s : State) (store : Store) → RowsMade s store [] (decoded [] []) s store []
+none-made s store = all-made [] [] s store [] s store [] 0 0 (none-so-far [] [] s store [] no-rows) (omega arith)
 
 module _ (list : List ℕ) (first : ℕ) (store : Store) (words rows bytes : List ℕ) (number : ℕ) where
   -- what the contract says of the store and the answers that are given back

@@ -24,6 +24,7 @@ use state::answer::Answer;
 use state::state::State;
 ghost use mathlib.Core.Path.{_≡_};
 ghost use mathlib.Core.Bool.{true};
+ghost use mathlib.Core.List.{[]};
 ghost use Prim.Native.Nat.{_/_, _≤_};
 ghost use lib.ListN.{length};
 ghost use Rattle.request.specs.Call.{callOf};
@@ -113,5 +114,20 @@ pub extern "C" fn measured_calls(
         return result_number(ListReply::BadLoad);
     };
     make_each(loaded.state, store, words, bytes, answers);
+    result_number(ListReply::Made)
+}
+
+// Loads as `measured_calls` does, and makes no call. So Load is called at two places and stays a function of its own: compiled into the loop
+// over the calls, the places that it clears would have the State copied in small parts at every call.
+#[no_mangle]
+pub extern "C" fn measured_load(list: &[u8], first: u32, store: &mut [u8]) -> u32
+    ensures { λ r. ⌜ numberedOutcome r (now (store .exit)) []
+        ≡ loadAndRunNumbered (now (list .entry)) first (now (store .entry)) [] (decoded [] []) ⌝ }
+{
+    let loaded = load(nothing_loaded(), list, first, store);
+    let answer = loaded.answer;
+    let Answer::Done = answer else {
+        return result_number(ListReply::BadLoad);
+    };
     result_number(ListReply::Made)
 }

@@ -8,7 +8,7 @@
 #include <stdlib.h>
 #include <string.h>
 
-/* ---- one list of calls, three ways */
+/* ---- one list of calls, three ways; with an old call in it, two */
 
 /* What one way is lent and gives. */
 struct outcome { uint32_t number; uint8_t *store; uint32_t *answers; };
@@ -29,10 +29,12 @@ static void tell_difference(const char *name, int way, struct list list, const s
 
 size_t compare_list(const char *name, struct text text, uint32_t first, size_t store_length, struct list list, size_t room)
 {
-    struct outcome outcomes[WAYS];
+    struct outcome outcomes[WAYS] = { 0 };
     size_t differences = 0;
     for (int way = 0; way < WAYS; way++) {
         struct outcome *o = &outcomes[way];
+        if (!makes((enum way)way, list))
+            continue;
         o->store = malloc(store_length + 1);
         o->answers = malloc((room + 1) * sizeof *o->answers);
         memset(o->store, 0xa5, store_length + 1);
@@ -62,6 +64,7 @@ static void note_seen(struct seen *seen, struct text text, uint32_t first, struc
     seen->bad_loads += number == BAD_LOAD;
     seen->malformed += number == 256;
     seen->short_answers += number == 257;
+    seen->of_the_twelve += makes(BY_CALLS, list);
     for (size_t i = 0; number == 0 && i < list.word_count / 6; i++) {
         seen->calls++;
         seen->kinds[answers[2 * i]]++;
@@ -75,7 +78,8 @@ static void note_seen(struct seen *seen, struct text text, uint32_t first, struc
 void print_seen(const struct seen *seen)
 {
     printf("generated lists: %zu made, %zu refused by 20, ", seen->made, seen->bad_loads);
-    printf("%zu malformed, %zu without room; %zu calls, by kind of answer", seen->malformed, seen->short_answers, seen->calls);
+    printf("%zu malformed, %zu without room, ", seen->malformed, seen->short_answers);
+    printf("%zu of them of the twelve calls; %zu calls, by kind of answer", seen->of_the_twelve, seen->calls);
     for (int kind = 0; kind <= OLD_ANSWER; kind++)
         printf(" %d:%zu", kind, seen->kinds[kind]);
     printf("; refused by");

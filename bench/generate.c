@@ -157,10 +157,10 @@ static void make_allowed(struct generator *g)
         make_call(g, REPORT, chance(4) != 0);
 }
 
-/* Makes any call of the sixteen. */
+/* Makes any call of those that the list is of. */
 static void make_any(struct generator *g)
 {
-    enum call call = (enum call)chance(16);
+    enum call call = (enum call)chance(g->call_count);
     if (call == TRANSFER_DATA)
         make(g, (uint32_t[6]){ TRANSFER_DATA, 0, chance_id(g), chance(4), 0, chance((uint32_t)g->script.blocks.length + 1) });
     else if (call == TRANSFER_START)
@@ -180,10 +180,12 @@ uint32_t chance_first(void)
     return chance(12) == 0 ? UINT32_MAX - chance(4) : chance(40) == 0 ? 0 : 1 + chance(5);
 }
 
-/* Generates a cluster list and a list of calls from it, now and then damaged. */
+/* Generates a cluster list and a list of calls from it, now and then damaged. Half of the lists are of the twelve calls, the others of all
+   sixteen; an old call comes in by make_any, or by the damage. */
 void generate(struct generator *g, struct text *text, uint32_t first)
 {
     script_clear(&g->script);
+    g->call_count = chance(2) ? OLD_ACTIVATE : OLD_ROLLBACK + 1;
     chance_list(text);
     if (chance(10) == 0)
         damage(text, 0);

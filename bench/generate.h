@@ -14,8 +14,9 @@ void chance_list(struct text *text);
 struct package_plan chance_package(void);
 void damage(struct text *text, size_t from);
 
-/* A list of calls under construction: the C version's state after the calls so far says which call leads on. */
-struct generator { struct state state; struct store store; struct script script; };
+/* A list of calls under construction, of the first calls of enum call, so many: the C version's state after the calls so far says which
+   call leads on. */
+struct generator { struct state state; struct store store; struct script script; uint32_t call_count; };
 void generate(struct generator *g, struct text *text, uint32_t first);
 
 #endif

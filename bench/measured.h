@@ -5,7 +5,7 @@
 #include <stddef.h>
 #include <stdint.h>
 
-/* Load, and then each call of the list with its own check of soundness. */
+/* Load, and then each call of the list, which are of the twelve, with its own check of soundness. */
 uint32_t measured_calls(const uint8_t *list, size_t list_length, uint32_t first, uint8_t *store, size_t store_length, const uint32_t *words,
     size_t word_count, const uint8_t *bytes, size_t byte_count, uint32_t *answers, size_t room);
 

@@ -1,2 +1,4 @@
 pub mod NumberedWays
 pub mod TurnLaws
+pub mod TwelveLaws
+pub mod TwelveRow

@@ -2,11 +2,8 @@
 use c_interface::nothing_loaded;
 use c_interface::result_number;
 use call_list::ListReply;
-use call_list::RowAnswered;
 use call_list::put_answer;
-use call_list::row_answered;
 use call_rows::answer_words::answer_words;
-use call_rows::answer_words::old_answer_words;
 use call_rows::row::MixedRequest;
 use call_rows::row::Row;
 use call_rows::row::RowRequest;
@@ -14,55 +11,35 @@ use call_rows::row::row_at;
 use call_rows::row::row_block;
 use call_rows::row::row_request;
 use call_rows::row_list::rows_well_formed;
-use four_state::call::OldCall;
-use four_state::call::old_call;
 use load::load;
 use manager::call;
 use refusal::BAD_STATE;
-use request::Request;
 use state::answer::Answer;
+use state::answer::Answered;
+use state::answer::answer_with;
+use state::answer::refused;
 use state::state::State;
 ghost use mathlib.Core.Path.{_≡_};
 ghost use mathlib.Core.Bool.{true};
 ghost use mathlib.Core.List.{[]};
 ghost use Prim.Native.Nat.{_/_, _≤_};
 ghost use lib.ListN.{length};
-ghost use Rattle.request.specs.Call.{callOf};
-ghost use Rattle.four_state.specs.MixedLists.{ofTwelve, ofFour};
 ghost use Rattle.call_rows.specs.Rows.{decoded, isGiven};
-ghost use Rattle.call_list.specs.WholeList.{CallMade, RowMade, RowsMade};
 ghost use Rattle.c_interface.specs.LoadAndRun.{numberedOutcome, loadAndRunNumbered};
+ghost use Rattle.measured.specs.Twelve.{OfTheTwelve, TwelveMade, TwelvesMade};
 
-// Makes a call of the twelve.
-fn make_twelve(s: State, store: &mut [u8], request: Request, block: &[u8]) -> RowAnswered
-    ensures { λ r. ⌜ CallMade s (now (store .entry)) (ofTwelve (callOf request (now (block .entry)))) r (now (store .exit)) ⌝ }
-{
-    let made = call(s, store, request, block);
-    let answer = made.answer;
-    let state = made.state;
-    row_answered(answer_words(answer), state)
-}
-
-// Makes a call of the old four, which writes no store.
-fn make_old(s: State, store: &[u8], old: OldCall) -> RowAnswered
-    ensures { λ r. ⌜ CallMade s (now (store .entry)) (ofFour old) r (now (store .entry)) ⌝ }
-{
-    let made = old_call(s, store, old);
-    let state = made.state;
-    row_answered(old_answer_words(made.answer), state)
-}
-
-// Makes the call of a row. Of a malformed row nothing is said: `measured_calls` checks all rows before the first call.
-fn make_row(s: State, store: &mut [u8], row: Row, bytes: &[u8]) -> RowAnswered
-    ensures { λ r. ⌜ RowMade s (now (store .entry)) row (now (bytes .entry)) r (now (store .exit)) ⌝ }
+// Makes the call of a row. Of a malformed row nothing is said, because `measured_calls` checks all rows before the first call; and nothing
+// of an old call, so that the State is in one kind of answer throughout.
+fn make_row(s: State, store: &mut [u8], row: Row, bytes: &[u8]) -> Answered
+    ensures { λ r. ⌜ TwelveMade s (now (store .entry)) row (now (bytes .entry)) r (now (store .exit)) ⌝ }
 {
     let RowRequest::WellFormed(request) = row_request(row, bytes.len()) else {
-        return row_answered(answer_words(Answer::Refused(BAD_STATE)), s);
+        return refused(s, BAD_STATE);
     };
-    match request {
-        MixedRequest::Twelve(twelve) => make_twelve(s, store, twelve, row_block(row, bytes)),
-        MixedRequest::Old(old) => make_old(s, store, old),
-    }
+    let MixedRequest::Twelve(twelve) = request else {
+        return refused(s, BAD_STATE);
+    };
+    call(s, store, twelve, row_block(row, bytes))
 }
 
 // Makes every call of the rows, each with the state and store that the one before left. Precondition: the rows are well-formed and the
@@ -70,25 +47,24 @@ fn make_row(s: State, store: &mut [u8], row: Row, bytes: &[u8]) -> RowAnswered
 fn make_each(s: State, store: &mut [u8], words: &[u32], bytes: &[u8], answers: &mut [u32]) -> State
     requires { ⌜ isGiven (decoded (now words) (now bytes)) ≡ true ⌝ }
     requires { ⌜ length (now words) / 3 ≤ length (now answers) ⌝ }
-    ensures { λ r. ⌜ RowsMade s (now (store .entry)) (now (answers .entry)) (decoded (now (words .entry)) (now (bytes .entry)))
+    ensures { λ r. ⌜ TwelvesMade s (now (store .entry)) (now (answers .entry)) (decoded (now (words .entry)) (now (bytes .entry)))
         r (now (store .exit)) (now (answers .exit)) ⌝ }
 {
-    let mut state = s;
+    let mut made = answer_with(Answer::Done, s);
     let mut i = 0;
     let mut at = 0;
     while i < words.len() {
-        let r = make_row(state, store, row_at(words, i), bytes);
-        let given = r.words;
-        put_answer(answers, at, given);
-        state = r.state;
+        made = make_row(made.state, store, row_at(words, i), bytes);
+        let answer = made.answer;
+        put_answer(answers, at, answer_words(answer));
         i += 6;
         at += 2;
     }
-    state
+    made.state
 }
 
-// Loads, and then makes every call of the list by `manager::call`, or `four_state::call::old_call`, with its check of soundness. It gives
-// what `wozkindu_load_and_run` gives.
+// Loads, and then makes every call of the list by `manager::call` with its check of soundness. For a list of the twelve calls it gives what
+// `wozkindu_load_and_run` gives; of one with an old call nothing is said.
 #[no_mangle]
 pub extern "C" fn measured_calls(
     list: &[u8],
@@ -98,9 +74,10 @@ pub extern "C" fn measured_calls(
     bytes: &[u8],
     answers: &mut [u32],
 ) -> u32
-    ensures { λ r. ⌜ numberedOutcome r (now (store .exit)) (now (answers .exit))
+    ensures { λ r. ⌜ (OfTheTwelve (decoded (now (words .entry)) (now (bytes .entry)))
+        → numberedOutcome r (now (store .exit)) (now (answers .exit))
         ≡ loadAndRunNumbered (now (list .entry)) first (now (store .entry)) (now (answers .entry))
-        (decoded (now (words .entry)) (now (bytes .entry))) ⌝ }
+        (decoded (now (words .entry)) (now (bytes .entry)))) ⌝ }
 {
     if !rows_well_formed(words, bytes) {
         return result_number(ListReply::Malformed);

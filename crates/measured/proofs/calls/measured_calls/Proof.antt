@@ -1,4 +1,4 @@
--- `measured::calls::measured_calls` meets its contract: the four ways out. Assumes nothing.
+-- `measured::calls::measured_calls` meets its contract: the four ways out, the last for calls of the twelve. Assumes nothing.
 use borrow.Author.Needs.{needs}
 use Rattle.base.proofs.Ladder.{told-no, told-yes}
 use Rattle.measured.proofs.NumberedWays.{ends-malformed, ends-short, ends-bad, ends-made}
@@ -12,13 +12,13 @@ result-number-requires : tie.Need-result-number-requires
 result-number-requires c κs = search needs
 
 returns : tie.Need-returns
-returns c = ends-malformed _ _ _ _ _ _ _ (search told-no) (search needs)
+returns c = λ twelve. ends-malformed _ _ _ _ _ _ _ (search told-no) (search needs)
 
 result-number-requires-2 : tie.Need-result-number-requires-2
 result-number-requires-2 c κs = search needs
 
 returns-2 : tie.Need-returns-2
-returns-2 c = ends-short _ _ _ _ _ _ _ (search told-yes) (search needs) (search needs)
+returns-2 c = λ twelve. ends-short _ _ _ _ _ _ _ (search told-yes) (search needs) (search needs)
 
 nothing-loaded-requires : tie.Need-nothing-loaded-requires
 nothing-loaded-requires c κs = search needs
@@ -38,7 +38,7 @@ same-length c = search needs
 returns-3 : tie.Need-returns-3
 returns-3 c =
     let l = c .before .before .before .before in
-    ends-bad _ _ _ _ _ _ _ _ (search needs) (l .load .result) _ (l .load .ensures .1 .0) (search told-yes) (search needs) (c .before .match .keys2) (search needs)
+    λ twelve. ends-bad _ _ _ _ _ _ _ _ (search needs) (l .load .result) _ (l .load .ensures .1 .0) (search told-yes) (search needs) (c .before .match .keys2) (search needs)
 
 make-each-requires : tie.Need-make-each-requires
 make-each-requires c κs = (search told-yes, search needs)
@@ -56,7 +56,7 @@ returns-4 : tie.Need-returns-4
 returns-4 c =
     let all = c .before .before .before .before .before in
     let l = all .before .before .before .before .before .before .before in
-    ends-made _ _ _ _ _ _ _ _ (search needs) (l .load .result) _ (l .load .ensures .1 .0) (search told-yes) (search needs) (l .load .ensures .0) (search needs) (all .make-each .result) _ _ (all .make-each .ensures) (search needs)
+    λ twelve. ends-made _ _ _ _ _ _ _ _ (search needs) (l .load .result) _ (l .load .ensures .1 .0) (search told-yes) (search needs) (l .load .ensures .0) (search needs) (all .make-each .result) _ _ (all .make-each .ensures twelve) (search needs)
 
 pub measured-calls-spec : {M : Type 1} → statement M
 measured-calls-spec =

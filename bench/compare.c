@@ -78,8 +78,8 @@ static void note_seen(struct seen *seen, struct text text, uint32_t first, struc
 void print_seen(const struct seen *seen)
 {
     printf("generated lists: %zu made, %zu refused by 20, ", seen->made, seen->bad_loads);
-    printf("%zu malformed, %zu without room, ", seen->malformed, seen->short_answers);
-    printf("%zu of them of the twelve calls; %zu calls, by kind of answer", seen->of_the_twelve, seen->calls);
+    printf("%zu malformed, %zu without room; ", seen->malformed, seen->short_answers);
+    printf("%zu without an old call; %zu calls, by kind of answer", seen->of_the_twelve, seen->calls);
     for (int kind = 0; kind <= OLD_ANSWER; kind++)
         printf(" %d:%zu", kind, seen->kinds[kind]);
     printf("; refused by");

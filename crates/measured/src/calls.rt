@@ -94,8 +94,8 @@ pub extern "C" fn measured_calls(
     result_number(ListReply::Made)
 }
 
-// Loads as `measured_calls` does, and makes no call. So Load is called at two places and stays a function of its own: compiled into the loop
-// over the calls, the places that it clears would have the State copied in small parts at every call.
+// Loads as `measured_calls` does, and makes no call. So Load is called at two places and stays a function of its own: compiled into the
+// loop over the calls, the places that it clears would have the State copied in small parts at every call.
 #[no_mangle]
 pub extern "C" fn measured_load(list: &[u8], first: u32, store: &mut [u8]) -> u32
     ensures { λ r. ⌜ numberedOutcome r (now (store .exit)) []

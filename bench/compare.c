@@ -17,14 +17,14 @@ struct outcome { uint32_t number; uint8_t *store; uint32_t *answers; };
 static void tell_difference(const char *name, int way, struct list list, const struct outcome *c, const struct outcome *other, size_t room)
 {
     printf("DIFFERENT %s: %s gives %u, C gives %u\n", name, WAY_NAMES[way], other->number, c->number);
-    for (size_t i = 0; i + 1 < room; i += 2)
+    for (size_t i = 0; i + 1 < room && i < list.word_count / 3; i += 2)
         if (memcmp(c->answers + i, other->answers + i, 2 * sizeof *c->answers) != 0) {
             const uint32_t *row = list.words + 3 * i;
             printf("  row %zu (%u %u %u): %s answers %u %u, C %u %u\n", i / 2, row[0], row[2], row[3], WAY_NAMES[way], other->answers[i],
                 other->answers[i + 1], c->answers[i], c->answers[i + 1]);
             return;
         }
-    printf("  the answers are equal, the stores are not\n");
+    printf("  the answers are equal: the number, the store or a word behind the answers is not\n");
 }
 
 size_t compare_list(const char *name, struct text text, uint32_t first, size_t store_length, struct list list, size_t room)

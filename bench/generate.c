@@ -108,7 +108,7 @@ static uint32_t chance_n(void)
     return N[chance(5)];
 }
 
-/* Sends a package in one to three blocks, with a wrong counter or a block too many now and then, and checks it. */
+/* Sends a package in two or three blocks, with a wrong counter or a block too many now and then, and checks it. */
 static void send_package(struct generator *g)
 {
     struct text *blocks = &g->script.blocks;

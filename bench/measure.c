@@ -157,12 +157,18 @@ static void print_load(const struct state_size *size, size_t store_length)
     struct prepared p = { .measured = &load };
     char name[80];
     double proved = 0, in_c = 0;
+    enum { LOADS = 10 };
     write_list(&p.list, size->clusters, size->needs);
-    for (int round = 0; round < 5 * ROUNDS; round++) {
-        keep_least(&in_c, timed(IN_C, &p, 0));
-        double before = now_ns();
-        sink = (uint8_t)measured_load(p.list.bytes, p.list.length, 1, store_bytes, store_length);
-        keep_least(&proved, now_ns() - before);
+    for (int round = 0; round < 2 * ROUNDS; round++) {
+        double t0 = now_ns();
+        for (int i = 0; i < LOADS; i++)
+            run(IN_C, &p, 0);
+        double t1 = now_ns();
+        for (int i = 0; i < LOADS; i++)
+            sink = measured_load(p.list.bytes, p.list.length, 1, store_bytes, store_length);
+        double t2 = now_ns();
+        keep_least(&in_c, (t1 - t0) / LOADS);
+        keep_least(&proved, (t2 - t1) / LOADS);
     }
     snprintf(name, sizeof name, "Load, %s state, store of %zu bytes", size->name, store_length);
     print_part(name, proved, in_c, "ns");

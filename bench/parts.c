@@ -58,17 +58,20 @@ static size_t c_turns_met(const struct text *list, size_t turns)
 /* Gives the least times of reading a list alone and of reading it and asking its needs at each turn. */
 static void time_list(const struct text *list, size_t turns, double proved[2], double c[2])
 {
+    enum { READS = 20 };
     static uint8_t ones[1000];
     memset(ones, 1, sizeof ones);
-    for (int round = 0; round < 20 * ROUNDS; round++)
+    for (int round = 0; round < 2 * ROUNDS; round++)
         for (int with = 0; with < 2; with++) {
             double t0 = now_ns();
-            sink = (uint32_t)measured_needs_met(list->bytes, list->length, ones, with ? turns : 0);
+            for (int i = 0; i < READS; i++)
+                sink = (uint32_t)measured_needs_met(list->bytes, list->length, ones, with ? turns : 0);
             double t1 = now_ns();
-            sink = (uint32_t)c_turns_met(list, with ? turns : 0);
+            for (int i = 0; i < READS; i++)
+                sink = (uint32_t)c_turns_met(list, with ? turns : 0);
             double t2 = now_ns();
-            keep_least(&proved[with], t1 - t0);
-            keep_least(&c[with], t2 - t1);
+            keep_least(&proved[with], (t1 - t0) / READS);
+            keep_least(&c[with], (t2 - t1) / READS);
         }
 }
 

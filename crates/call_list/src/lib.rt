@@ -54,7 +54,7 @@ pub struct RowAnswered {
     pub state: State,
 }
 
-pub fn row_answered(words: AnswerWords, s: State) -> RowAnswered
+fn row_answered(words: AnswerWords, s: State) -> RowAnswered
     ensures { λ r. ⌜ r ≡ rowAnswered words s ⌝ }
 {
     RowAnswered {

@@ -66,10 +66,17 @@ fn show_number(case: &[u8], words: &[u32], store: &mut [u8], answers: &mut [u32]
     show::byte(b',');
 }
 
-fn play_list(case: &[u8], words: &[u32]) {
+// Makes the list as a program in C does, with a store and answers of its own.
+fn play_number(case: &[u8], words: &[u32]) {
     let mut store = [255u8; 2000];
     let mut answers = [0u32; 400];
     show_number(case, words, &mut store, &mut answers);
+}
+
+fn play_list(case: &[u8], words: &[u32]) {
+    play_number(case, words);
+    let mut store = [255u8; 2000];
+    let mut answers = [0u32; 400];
     show_list(case, words, &mut store, &mut answers);
 }
 

@@ -87,7 +87,7 @@ module _ (l : Option (List ℕ)) (buffer : List ℕ) (n t : ℕ) (inside : n ≤
       ∙ ap textOf same
 
   pub ends-as : (x : ScriptLine) → x ≡ scriptLineAt (take t buffer) 0 → EndsAs l buffer (record { count = n; text = t; read = x })
-  ends-as x f = record { bytes = text-bytes; reads = f }
+  ends-as x f = record { whole = same; bytes = text-bytes; reads = f }
 
 -- a line that is too long is played as one of no bytes: `unknown`, and nothing changes
 text-ended : (l : Option (List ℕ)) (h : Held) → afterText (textOf (endedLine l)) h ≡ afterGathered l h

@@ -24,6 +24,7 @@ pub record NothingRead (b : Bench) : Type 0 where
   pub gathered : b .gathering .gathered ≡ nothingGathered
   pub goes : b .gathering .«goes_on» ≡ true
 
+-- what is gathered of a line, and whether the program goes on
 abbrev pub gatheringOf : Gathered → Bool → Gathering
 gatheringOf g on = record { gathered = g; «goes_on» = on }
 
@@ -31,6 +32,7 @@ gatheringOf g on = record { gathered = g; «goes_on» = on }
 abbrev pub newLine : Bool → Gathering
 newLine written = gatheringOf nothingGathered written
 
+-- the bench of these two parts
 abbrev pub benchWith : Kept → Gathering → Bench
 benchWith k g = record { kept = k; gathering = g }
 
@@ -70,6 +72,7 @@ endedLine (some line) = line
 
 -- a line that has ended is the first bytes of its buffer, and is read without its LF
 pub record EndsAs (line : Option (List ℕ)) (buffer : List ℕ) (e : EndedLine) : Type 0 where
+  pub whole : take (e .count) buffer ≡ endedLine line
   pub bytes : take (e .text) buffer ≡ textOf (endedLine line)
   pub reads : e .read ≡ scriptLineAt (take (e .text) buffer) 0
 

@@ -2,8 +2,8 @@
 -- actions, with the kept one of Processing behind them, where there is any. Assumes nothing.
 use borrow.Author.Needs.{needs}
 use native.Mathlib.Omega.{arith}
-use mathlib.Core.Path.{_≡_, sym, ap, _∙_}
-use mathlib.Core.Bool.{true, cond}
+use mathlib.Core.Path.{_≡_, ap, _∙_}
+use mathlib.Core.Bool.{true}
 use Prim.Native.Nat.{ℕ, _+_, _≤_}
 use Rattle.base.proofs.Ladder.{told-no, told-yes}
 use Rattle.clusters.specs.Table.{tableWithin}

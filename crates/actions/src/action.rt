@@ -8,7 +8,7 @@ use clusters::cluster::{Cluster, new_cluster, with_mark};
 use clusters::table::{CLUSTERS_MOST, Table};
 use text::version::NO_VERSION;
 
-#[derive(Drop)]
+#[derive(Clone, Copy)]
 pub enum Change {
     Install,
     Update,
@@ -17,7 +17,7 @@ pub enum Change {
 
 // Of a remove only the cluster's part number counts; its version and needs are unused places. The mark of the cluster is an unused
 // place of every action.
-#[derive(Drop)]
+#[derive(Clone, Copy)]
 pub struct Action {
     pub change: Change,
     pub cluster: Cluster,

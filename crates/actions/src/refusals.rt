@@ -17,7 +17,7 @@ use refusal::{CLUSTER_ABSENT, CLUSTER_PRESENT, CLUSTER_TOUCHED, OLD_VERSION, STA
 use text::version::Version;
 
 // What is looked at of the cluster that is staged under a part number: its version and mark, or that there is none.
-#[derive(Drop)]
+#[derive(Clone, Copy)]
 pub enum Staged {
     At(Version, bool),
     Nothing,

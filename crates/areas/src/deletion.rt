@@ -10,7 +10,7 @@ use state::package::{Package, is_processed};
 use state::transfers::Transfers;
 
 // What is deleted: by DeleteTransfer the package with an id, by clean-up all that are Processed.
-#[derive(Drop)]
+#[derive(Clone, Copy)]
 pub enum Deletion {
     WithId(u32),
     AllProcessed,

@@ -36,7 +36,7 @@ pub fn find(t: Transfers, id: u32) -> Found
 }
 
 // The number of the first of the refusals 3 and 4 that applies, or 0 and the place of the package. Refused, the place says nothing.
-#[derive(Drop)]
+#[derive(Clone, Copy)]
 pub struct NamedPackage {
     pub number: u32,
     pub place: usize,

@@ -1,4 +1,5 @@
 // Lists of calls, the twelve and the old four, each handed the state and store that the one before left.
+#![tactic(auto)]
 pub mod loaded;
 
 ghost use Rattle.std.specs.Prelude.{◌≡◌, true, [], ◌∷◌, ◌+◌, ◌/◌, ◌≤◌, length};
@@ -24,7 +25,7 @@ use state::state::State;
 
 // What became of a list of calls: every call was made, or none was, because the list is malformed, the slice for its answers is too short,
 // or Load, where it comes before the list, was refused.
-#[derive(Drop)]
+#[derive(Clone, Copy)]
 pub enum ListReply {
     Made,
     BadLoad,
@@ -33,14 +34,14 @@ pub enum ListReply {
 }
 
 // The reply for a list, with the state then.
-#[derive(Drop)]
+#[derive(Clone, Copy)]
 pub struct RepliedList {
     pub reply: ListReply,
     pub state: State,
 }
 
 // The two words of a call's answer, and the state then.
-#[derive(Drop)]
+#[derive(Clone, Copy)]
 pub struct RowAnswered {
     pub words: AnswerWords,
     pub state: State,

@@ -7,7 +7,7 @@ ghost use Rattle.call_rows.specs.Answers.{words, answer_words};
 use state::answer::Answer;
 
 // Which of the answers it is, and the id, the refusal number or the old answer; 0 where there is none.
-#[derive(Drop)]
+#[derive(Clone, Copy)]
 pub struct AnswerWords {
     pub kind: u32,
     pub value: u32,

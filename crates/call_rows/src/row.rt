@@ -8,7 +8,7 @@ use four_state::call::OldCall;
 use request::Request;
 
 // The number of the call, a word that is 0 and kept for later use, the call's two numbers, and the start and length of its block.
-#[derive(Drop)]
+#[derive(Clone, Copy)]
 pub struct Row {
     pub call: u32,
     pub reserved: u32,
@@ -19,14 +19,14 @@ pub struct Row {
 }
 
 // A call of the twelve, whose block lies in the byte string, or one of the old four.
-#[derive(Drop)]
+#[derive(Clone, Copy)]
 pub enum MixedRequest {
     Twelve(Request),
     Old(OldCall),
 }
 
 // The request of a row, or that it has none.
-#[derive(Drop)]
+#[derive(Clone, Copy)]
 pub enum RowRequest {
     WellFormed(MixedRequest),
     Malformed,

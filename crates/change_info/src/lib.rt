@@ -1,4 +1,5 @@
 // ChangeInfo: "ChangeInfo the session's list in order as names `cluster`, `change` with Added, Updated or Removed".
+#![tactic(auto)]
 mod length;
 mod write;
 

@@ -1,10 +1,12 @@
 // The sum that a package declares of its payload: two running sums by 255, and the pair as one number.
+#![tactic(auto)]
+
 ghost use Rattle.std.specs.Prelude.{true, ◌≡◌, ◌+◌, ◌≤◌, ◌%◌};
 ghost use Rattle.checksum.specs.RemainderTable.{is_remainder_table};
 ghost use Rattle.checksum.specs.Sum.{start_sums, step, continued, sum_number, sums_within};
 
 // The running sums, each at most 254. They are 32 bits wide, as the number of the pair is.
-#[derive(Drop)]
+#[derive(Clone, Copy)]
 pub struct Sums {
     pub c0: u32,
     pub c1: u32,

@@ -7,14 +7,14 @@ use libc::STDIN_FILENO;
 use text::write::put_bytes;
 
 // How many bytes were read: the whole input, or as many as the buffer has; or that a read failed.
-#[derive(Drop)]
+#[derive(Clone, Copy)]
 pub enum InputRead {
     Bytes(usize),
     Failed,
 }
 
 // What one read gave: so many bytes, the end of the input, or that it failed.
-#[derive(Drop)]
+#[derive(Clone, Copy)]
 pub enum PartRead {
     Bytes(usize),
     Ended,

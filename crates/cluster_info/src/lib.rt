@@ -1,4 +1,5 @@
 // ClusterInfo: "ClusterInfo writes the running table as text".
+#![tactic(auto)]
 ghost use Rattle.std.specs.Prelude.{◌≡◌, true, length};
 ghost use Rattle.clusters.specs.Table.{table_within};
 ghost use Rattle.clusters.specs.View.{view_table};

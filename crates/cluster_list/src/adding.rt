@@ -14,7 +14,7 @@ use clusters::table::CLUSTERS_MOST;
 use text::version::{NO_VERSION, Version};
 
 // The end of a table: its last cluster, cleared where there is none, and the number of its clusters.
-#[derive(Drop)]
+#[derive(Clone, Copy)]
 pub struct TableEnd {
     pub last: Cluster,
     pub count: usize,

@@ -12,14 +12,14 @@ use text::number::{Number, whole_number};
 use text::version::{Version, VersionRead, whole_version};
 
 // What the fields needs and least of a line say: a need, or none where both are empty.
-#[derive(Drop)]
+#[derive(Clone, Copy)]
 pub enum OptionalNeed {
     Filled(Need),
     Empty,
 }
 
 // What reading these two fields finds: what they say, and the cursor behind what was read of least, the second.
-#[derive(Drop)]
+#[derive(Clone, Copy)]
 pub enum NeedRead {
     Value(OptionalNeed, Cursor),
     IllFormed,

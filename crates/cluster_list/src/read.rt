@@ -12,14 +12,14 @@ use rows::list_columns::{ListColumns, ListColumnsRead, list_columns};
 use rows::reader::line_at;
 use text::cursor::Cursor;
 
-#[derive(Drop)]
+#[derive(Clone, Copy)]
 pub enum ListAnswer {
     WellFormed,
     IllFormed,
 }
 
 // The table stands beside the answer; where the list is ill-formed it is the empty one.
-#[derive(Drop)]
+#[derive(Clone, Copy)]
 pub struct ListRead {
     pub answer: ListAnswer,
     pub table: Table,

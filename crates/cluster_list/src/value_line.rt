@@ -13,7 +13,7 @@ use text::version::{Version, VersionRead, whole_version};
 
 // What a value line says: it begins a cluster, with this part number and version, the need on the line or none, and this mark; it adds a
 // need to the cluster above it; or it is ill-formed.
-#[derive(Drop)]
+#[derive(Clone, Copy)]
 pub enum LineSays {
     Begins(u32, Version, OptionalNeed, bool),
     Adds(Need),

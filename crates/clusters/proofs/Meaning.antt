@@ -46,6 +46,7 @@ module _ {A : Type 0} (test : A → Bool) (all : List A → Bool) (of_none : all
       λ f. (x, Memᴰ.head refl, f)
 
   all-fails : (x : A) (xs : List A) → Memᴰ x xs → test x ≡ false → all xs ≡ false
+  all-fails x [] m f = elim m [ ]
   all-fails x (y ∷ xs) (Memᴰ.head e) f = of-each y xs ∙ ap (λ (b : Bool). b && all xs) (subst (λ (z : A). test z ≡ false) e f)
   all-fails x (y ∷ xs) (Memᴰ.tail m) f = of-each y xs ∙ ap (λ (b : Bool). test y && b) (all-fails x xs m f) ∙ and-false (test y)
 

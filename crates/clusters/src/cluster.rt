@@ -9,14 +9,14 @@ use text::version::{NO_VERSION, Version};
 pub const NEEDS_MOST: usize = 4;
 
 // A cluster that must be there, at the least version or above and with the same first part. It may be the one that has the need.
-#[derive(Drop)]
+#[derive(Clone, Copy)]
 pub struct Need {
     pub part: u32,
     pub least: Version,
 }
 
 // The first need_count of the needs count; the places behind them are unused. A cluster that stays can't be removed.
-#[derive(Drop)]
+#[derive(Clone, Copy)]
 pub struct Cluster {
     pub part: u32,
     pub version: Version,

@@ -10,7 +10,7 @@ use place_in_list::Found;
 use text::version::{NO_VERSION, Version};
 
 // The first count places of each column count; the places behind them are unused.
-#[derive(Drop)]
+#[derive(Clone, Copy)]
 pub struct Columns {
     pub parts: [u32; CLUSTERS_MOST],
     pub versions: [Version; CLUSTERS_MOST],

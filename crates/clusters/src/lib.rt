@@ -1,4 +1,6 @@
 // Versions compared, clusters, and tables of clusters.
+#![tactic(auto)]
+
 pub mod cluster;
 pub mod columns;
 pub mod needs;

@@ -14,7 +14,7 @@ use text::version::NO_VERSION;
 pub const CLUSTERS_MOST: usize = 64;
 
 // The first count of the clusters count; the places behind them are unused.
-#[derive(Drop)]
+#[derive(Clone, Copy)]
 pub struct Table {
     pub clusters: [Cluster; CLUSTERS_MOST],
     pub count: usize,

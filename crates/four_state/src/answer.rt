@@ -9,7 +9,7 @@ use state::state::State;
 const SUCCESS: u8 = 0;
 
 // An old call's answer and the state then.
-#[derive(Drop)]
+#[derive(Clone, Copy)]
 pub struct OldAnswered {
     pub answer: u8,
     pub state: State,

@@ -14,7 +14,7 @@ use soundness::sound::sound;
 use state::state::State;
 
 // The four that change the state. Cancel has a transfer id.
-#[derive(Drop)]
+#[derive(Clone, Copy)]
 pub enum OldCall {
     Activate,
     Cancel(u32),

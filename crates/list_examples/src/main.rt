@@ -1,6 +1,7 @@
 // Exercises lists of calls: each case loads a table and runs a list of calls in rows of six words. The file stdin beside src/ has the
 // cases, in the form that `cases::case` says, and the file stdout what must be printed, written from document 01 and from the table of what
 // the old calls answer.
+#![tactic(auto)]
 mod answers;
 mod lists;
 mod words;

@@ -8,7 +8,7 @@ use state::limits::ENTRIES_MOST;
 use state::session::Entry;
 
 // The first places of each column count, as many as the list has entries; the places behind them are unused.
-#[derive(Drop)]
+#[derive(Clone, Copy)]
 pub struct EntryColumns {
     pub ids: [u32; ENTRIES_MOST],
     pub parts: [u32; ENTRIES_MOST],

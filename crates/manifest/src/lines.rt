@@ -12,7 +12,7 @@ use rows::reader::{cell_is_empty, line_at};
 use text::cursor::Cursor;
 
 // What reading a value line behind the first finds. Its caller has the cursor behind the line from `line_at`.
-#[derive(Drop)]
+#[derive(Clone, Copy)]
 pub enum NeedLine {
     Value(Need),
     IllFormed,

@@ -20,7 +20,7 @@ use rows::reader::line_at;
 use text::cursor::Cursor;
 use text::version::NO_VERSION;
 
-#[derive(Drop)]
+#[derive(Clone, Copy)]
 pub enum PackageAnswer {
     // The text before the payload is well formed and the payload has its count of bytes.
     Consistent,
@@ -32,7 +32,7 @@ pub enum PackageAnswer {
 
 // The action, and the payload's start within the area, count and sum, stand beside the answer; they are cleared unless
 // the answer is Consistent.
-#[derive(Drop)]
+#[derive(Clone, Copy)]
 pub struct PackageRead {
     pub answer: PackageAnswer,
     pub action: Action,

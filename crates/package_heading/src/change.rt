@@ -7,7 +7,7 @@ use text::cursor::Cursor;
 use text::word::is_word;
 
 // What reading an action word finds: the change that it names and the cursor behind it.
-#[derive(Drop)]
+#[derive(Clone, Copy)]
 pub enum ChangeRead {
     Value(Change, Cursor),
     IllFormed,

@@ -18,7 +18,7 @@ use text::version::{NO_VERSION, Version, VersionRead, whole_version};
 const PAYLOAD_MOST: u32 = 16777216;
 
 // What the fields action, cluster, payload and sum of the first value line say.
-#[derive(Drop)]
+#[derive(Clone, Copy)]
 pub struct Fields {
     pub change: Change,
     pub part: u32,
@@ -27,7 +27,7 @@ pub struct Fields {
 }
 
 // What the first value line says. Of a remove the version is 0.0.0.0 and there is no need.
-#[derive(Drop)]
+#[derive(Clone, Copy)]
 pub struct Heading {
     pub fields: Fields,
     pub version: Version,
@@ -35,7 +35,7 @@ pub struct Heading {
 }
 
 // What reading that line finds. Its caller has the cursor behind the line from `line_at`.
-#[derive(Drop)]
+#[derive(Clone, Copy)]
 pub enum HeadingRead {
     Value(Heading),
     IllFormed,

@@ -12,7 +12,7 @@ use state::limits::PACKAGES_MOST;
 use state::state::State;
 
 // The answer, and the records that are written: none where the call is refused.
-#[derive(Drop)]
+#[derive(Clone, Copy)]
 pub struct PackagesReport {
     pub answer: ReadingReply,
     pub written: Records,

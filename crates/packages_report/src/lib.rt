@@ -1,4 +1,5 @@
 // Packages: "Packages fills a lent list of records (id, size, received, state) in id order."
+#![tactic(auto)]
 mod by_value;
 mod records;
 
@@ -12,7 +13,7 @@ use crate::by_value::{PackagesReport, answer_of, copied, record_at, report_withi
 use reading_reply::ReadingReply;
 use state::state::State;
 
-#[derive(Drop)]
+#[derive(Clone, Copy)]
 pub struct Record {
     pub id: u32,
     pub size: u32,

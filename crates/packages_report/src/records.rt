@@ -11,7 +11,7 @@ use state::package::{Package, PackageState};
 use state::transfers::Transfers;
 
 // The first count of the records count; the places behind them are cleared.
-#[derive(Drop)]
+#[derive(Clone, Copy)]
 pub struct Records {
     pub records: [Record; PACKAGES_MOST],
     pub count: usize,

@@ -16,7 +16,7 @@ use state::package::is_transferring;
 use state::transfers::Transfers;
 
 // The refusal number, or 0, and the payload's start and count in the store, which are 0 when refused.
-#[derive(Drop)]
+#[derive(Clone, Copy)]
 pub struct PayloadPlace {
     pub number: u32,
     pub start: usize,

@@ -1,9 +1,11 @@
 // A place in a list, and the search of a column of numbers.
+#![tactic(auto)]
+
 ghost use Rattle.std.specs.Prelude.{◌≡◌, ◌≤◌, eqb, length, take};
 ghost use Rattle.place_in_list.specs.Place.{first_place};
 
 // What a search answers: a place in the list, as an index from 0, or nothing.
-#[derive(Drop)]
+#[derive(Clone, Copy)]
 pub enum Found {
     At(usize),
     Nothing,

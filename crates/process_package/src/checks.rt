@@ -25,7 +25,7 @@ use state::transfers::Transfers;
 use state::work::{Work, cleared_work};
 
 // The number of the first refusal after refusal 4 that applies, or 0, and the values that are kept, which are cleared when refused.
-#[derive(Drop)]
+#[derive(Clone, Copy)]
 pub struct Checked {
     pub number: u32,
     pub work: Work,

@@ -1,4 +1,5 @@
 // Process: a package that is Transferred is Processing, and the state keeps what its text says.
+#![tactic(auto)]
 mod checks;
 
 ghost use Rattle.std.specs.Prelude.{◌≡◌, true, ◌<◌, length};

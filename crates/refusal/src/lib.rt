@@ -1,5 +1,7 @@
 // The numbers of the refusals, in the order in which they are checked: "a refusal is the number alone". 19 adds a length and is
 // therefore a case of the reading calls' reply.
+#![tactic(auto)]
+
 pub const BAD_STATE: u32 = 1;
 
 pub const SERVICE_BUSY: u32 = 2;

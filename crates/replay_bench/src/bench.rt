@@ -6,14 +6,14 @@ use script::gathered::{Gathered, nothing_gathered};
 use script_calls::kept::{Kept, nothing_loaded};
 
 // The line that is being gathered, and whether the program goes on: no read or write has failed and the input has not ended.
-#[derive(Drop)]
+#[derive(Clone, Copy)]
 pub struct Gathering {
     pub gathered: Gathered,
     pub goes_on: bool,
 }
 
 // What is kept from line to line, and what is gathered of the next.
-#[derive(Drop)]
+#[derive(Clone, Copy)]
 pub struct Bench {
     pub kept: Kept,
     pub gathering: Gathering,

@@ -10,7 +10,7 @@ use script::line::{ScriptLine, script_line_at};
 use text::cursor::Cursor;
 
 // The line with a part of the input more, where the part ends, and whether it ends the line.
-#[derive(Drop)]
+#[derive(Clone, Copy)]
 pub struct Part {
     pub gathering: Gathering,
     pub end: usize,
@@ -18,7 +18,7 @@ pub struct Part {
 }
 
 // A line that has ended: how many bytes it has with its LF, how many without, and what it reads as.
-#[derive(Drop)]
+#[derive(Clone, Copy)]
 pub struct EndedLine {
     pub count: usize,
     pub text: usize,

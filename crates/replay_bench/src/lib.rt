@@ -1,6 +1,7 @@
 // The bench that the program `replay` is: plays a script of calls from standard input against one manager and writes every answer to
 // standard output. Each line is answered before more is read. It ends at the end of the input, or where a read or a write
 // fails: standard error then says why.
+#![tactic(auto)]
 mod answer;
 mod bench;
 mod gather;

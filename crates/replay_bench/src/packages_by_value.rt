@@ -18,7 +18,7 @@ use state::state::State;
 pub const LIST_MOST: usize = RECORDS_MOST as usize;
 
 // The answer, and the list as Packages leaves it; it was cleared before.
-#[derive(Drop)]
+#[derive(Clone, Copy)]
 pub struct PackagesByValue {
     pub answer: ReadingReply,
     pub list: [Record; LIST_MOST],

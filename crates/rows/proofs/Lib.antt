@@ -8,7 +8,6 @@ pub mod LineBounds
 pub mod LineBack
 pub mod ColumnMeaning
 pub mod NamesLine
-pub mod ReaderParts
 pub mod Totals
 pub mod LineBytes
 pub mod NamesOnce

@@ -7,14 +7,14 @@ use text::cursor::Cursor;
 use text::word::is_word;
 
 // What looking for a name among the fields of a line finds: the number of its field.
-#[derive(Drop)]
+#[derive(Clone, Copy)]
 pub enum Column {
     At(usize),
     Missing,
 }
 
 // The columns of the cluster list, which a package has too.
-#[derive(Drop)]
+#[derive(Clone, Copy)]
 pub struct ClusterColumns {
     pub cluster: usize,
     pub version: usize,
@@ -22,14 +22,14 @@ pub struct ClusterColumns {
     pub least: usize,
 }
 
-#[derive(Drop)]
+#[derive(Clone, Copy)]
 pub enum ClusterColumnsRead {
     Named(ClusterColumns),
     IllFormed,
 }
 
 // The columns of a package.
-#[derive(Drop)]
+#[derive(Clone, Copy)]
 pub struct PackageColumns {
     pub action: usize,
     pub payload: usize,
@@ -37,7 +37,7 @@ pub struct PackageColumns {
     pub cluster_columns: ClusterColumns,
 }
 
-#[derive(Drop)]
+#[derive(Clone, Copy)]
 pub enum PackageColumnsRead {
     Named(PackageColumns),
     IllFormed,

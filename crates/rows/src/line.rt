@@ -5,7 +5,7 @@ ghost use Rattle.rows.specs.Line.{line_from};
 use text::cursor::Cursor;
 
 // What reading a line finds: the cursor behind its LF.
-#[derive(Drop)]
+#[derive(Clone, Copy)]
 pub enum Line {
     Ends(Cursor),
     IllFormed,

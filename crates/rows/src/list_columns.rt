@@ -10,14 +10,14 @@ use crate::reader::line_at;
 use text::cursor::Cursor;
 
 // The columns of a list. In a list of four names there is no column of marks.
-#[derive(Drop)]
+#[derive(Clone, Copy)]
 pub struct ListColumns {
     pub cluster_columns: ClusterColumns,
     pub stays: Column,
 }
 
 // What reading the names line finds: the columns, and the cursor behind its LF.
-#[derive(Drop)]
+#[derive(Clone, Copy)]
 pub enum ListColumnsRead {
     Named(ListColumns, Cursor),
     IllFormed,

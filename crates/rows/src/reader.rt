@@ -8,7 +8,7 @@ use crate::field::cell_from;
 use crate::line::{Line, line_from};
 use text::cursor::Cursor;
 
-#[derive(Drop)]
+#[derive(Clone, Copy)]
 pub struct LineReader<'a> {
     pub text: &'a [u8],
     pub at: usize,

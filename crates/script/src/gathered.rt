@@ -5,7 +5,7 @@ ghost use Rattle.script.specs.Gathered.{nothing_gathered, line_so_far, gathered_
 use text::write::put_bytes;
 
 // How many bytes of the line that is being gathered stand in its buffer, and whether it is too long for that.
-#[derive(Drop)]
+#[derive(Clone, Copy)]
 pub struct Gathered {
     pub count: usize,
     pub is_too_long: bool,

@@ -15,7 +15,7 @@ use text::number::Number;
 use text::word::is_word;
 
 // A call with its numbers and the place of its bytes, one of the lines that are no call, or none of them.
-#[derive(Drop)]
+#[derive(Clone, Copy)]
 pub enum ScriptLine {
     Load { first: u32, store: u32, list: Place },
     Data { id: u32, counter: u32, block: Place },

@@ -7,13 +7,13 @@ use script_bytes::form::{Form, form_of};
 use text::cursor::Cursor;
 
 // Where a word stands in its line.
-#[derive(Drop)]
+#[derive(Clone, Copy)]
 pub struct Place {
     pub from: usize,
     pub to: usize,
 }
 
-#[derive(Drop)]
+#[derive(Clone, Copy)]
 pub enum BlockRead {
     At(Place),
     IllFormed,

@@ -5,7 +5,7 @@ ghost use Rattle.script_bytes.specs.Block.{form_of};
 use crate::hex::is_digits;
 use text::word::is_word;
 
-#[derive(Drop)]
+#[derive(Clone, Copy)]
 pub enum Form {
     // an even number of digits
     Digits,

@@ -8,14 +8,14 @@ use state::answer::{Answer, Answered};
 use state::state::{State, loaded_state};
 
 // The manager's state, and how many of the program's bytes are lent to it as its store.
-#[derive(Drop)]
+#[derive(Clone, Copy)]
 pub struct Kept {
     pub state: State,
     pub store_length: usize,
 }
 
 // The answer of a call; that of an old call; `unknown`; or that the line changes nothing and is answered by what it shows.
-#[derive(Drop)]
+#[derive(Clone, Copy)]
 pub enum LineAnswer {
     Answer(Answer),
     Old(u8),
@@ -24,7 +24,7 @@ pub enum LineAnswer {
 }
 
 // A line's answer, and what is kept then.
-#[derive(Drop)]
+#[derive(Clone, Copy)]
 pub struct Played {
     pub answer: LineAnswer,
     pub kept: Kept,

@@ -1,4 +1,5 @@
 // The calls that move the manager's state and change nothing else: Revert, Activate, Rollback and Finish.
+#![tactic(auto)]
 pub mod activate;
 pub mod finish;
 mod moves;

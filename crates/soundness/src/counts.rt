@@ -8,7 +8,7 @@ use state::package::{is_being_processed, is_processed};
 use state::transfers::Transfers;
 
 // The packages that are Processed, and those that are Processing.
-#[derive(Drop)]
+#[derive(Clone, Copy)]
 pub struct Counts {
     pub processed: usize,
     pub processing: usize,

@@ -1,4 +1,5 @@
 // Whether a state is sound for a store of a length, decided part by part on any values of the fields.
+#![tactic(auto)]
 mod counts;
 mod kept;
 mod listed;

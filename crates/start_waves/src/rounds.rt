@@ -11,7 +11,7 @@ use clusters::cluster::NEEDS_MOST;
 use clusters::table::CLUSTERS_MOST;
 
 // The wave of each place, 0 for none, and how many clusters are listed.
-#[derive(Drop)]
+#[derive(Clone, Copy)]
 pub struct Started {
     pub waves: [u32; CLUSTERS_MOST],
     pub count: usize,

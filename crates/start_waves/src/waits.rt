@@ -16,7 +16,7 @@ use place_in_list::Found;
 pub const WAITS_MOST: usize = CLUSTERS_MOST * NEEDS_MOST;
 
 // The place for need j of the cluster at place i is at i * NEEDS_MOST + j.
-#[derive(Drop)]
+#[derive(Clone, Copy)]
 pub struct Waits {
     pub places: [usize; WAITS_MOST],
 }

@@ -5,7 +5,7 @@ ghost use Rattle.state.specs.Outcome.{is_refusal, refused_by, answered};
 use crate::state::State;
 
 // The answers of document 01 by their names, the id that TransferStart gives, and a refusal, which is its number alone.
-#[derive(Drop)]
+#[derive(Clone, Copy)]
 pub enum Answer {
     Id(u32),
     Done,
@@ -23,7 +23,7 @@ pub enum Answer {
 }
 
 // A call's answer and the state then.
-#[derive(Drop)]
+#[derive(Clone, Copy)]
 pub struct Answered {
     pub answer: Answer,
     pub state: State,

@@ -4,7 +4,7 @@ ghost use Rattle.model.specs.Areas.{is_transferring, is_transferred, is_being_pr
 ghost use Rattle.state.specs.View.{view_package_state};
 ghost use Rattle.state.specs.Exact.{new_package, in_state, with_block};
 
-#[derive(Drop)]
+#[derive(Clone, Copy)]
 pub enum PackageState {
     Transferring,
     Transferred,
@@ -12,7 +12,7 @@ pub enum PackageState {
     Processed,
 }
 
-#[derive(Drop)]
+#[derive(Clone, Copy)]
 pub struct Package {
     pub id: u32,
     pub size: u32,

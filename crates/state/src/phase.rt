@@ -4,21 +4,21 @@ ghost use Rattle.model.specs.State.{phase_number, is_processing};
 ghost use Rattle.state.specs.View.{view_phase};
 
 // Where RollingBack came from.
-#[derive(Drop)]
+#[derive(Clone, Copy)]
 pub enum RollbackOrigin {
     Verifying,
     Activated,
 }
 
 // Where CleaningUp came from.
-#[derive(Drop)]
+#[derive(Clone, Copy)]
 pub enum CleanUpOrigin {
     Ready,
     Activated,
     RolledBack,
 }
 
-#[derive(Drop)]
+#[derive(Clone, Copy)]
 pub enum Phase {
     Idle,
     Ready,

@@ -8,14 +8,14 @@ use actions::action::{Action, cleared_action};
 use clusters::table::Table;
 
 // An action of the session's list, with the transfer id of its package.
-#[derive(Drop)]
+#[derive(Clone, Copy)]
 pub struct Entry {
     pub id: u32,
     pub action: Action,
 }
 
 // The first count of the entries count; the places behind them are unused.
-#[derive(Drop)]
+#[derive(Clone, Copy)]
 pub struct Session {
     pub beginning: Table,
     pub entries: [Entry; ENTRIES_MOST],

@@ -9,7 +9,7 @@ use crate::work::{Work, cleared_work};
 use clusters::table::Table;
 
 // The kept values are a field of their own and not part of the phase Processing; outside Processing a sound state has them cleared.
-#[derive(Drop)]
+#[derive(Clone, Copy)]
 pub struct State {
     pub phase: Phase,
     pub transfers: Transfers,

@@ -8,7 +8,7 @@ use crate::package::{Package, new_package};
 
 // The first count of the packages count; the places behind them are unused. The next id is 64 bits wide, because it is one above
 // the last of 32 bits when all are spent.
-#[derive(Drop)]
+#[derive(Clone, Copy)]
 pub struct Transfers {
     pub packages: [Package; PACKAGES_MOST],
     pub count: usize,

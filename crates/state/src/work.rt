@@ -7,7 +7,7 @@ use actions::action::{Action, Change, cleared_action};
 use checksum::Sums;
 use text::version::Version;
 
-#[derive(Drop)]
+#[derive(Clone, Copy)]
 pub struct Work {
     pub action: Action,
     pub start: u32,

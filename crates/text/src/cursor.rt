@@ -1,5 +1,5 @@
 // A position in a text that the caller lends.
-#[derive(Drop)]
+#[derive(Clone, Copy)]
 pub struct Cursor {
     pub at: usize,
 }

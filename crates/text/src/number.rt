@@ -5,7 +5,7 @@ ghost use Rattle.text.specs.Number.{digit_of, number_goes_on, number_at, whole_n
 use crate::cursor::Cursor;
 
 // What reading a number finds: its value and the cursor behind it.
-#[derive(Drop)]
+#[derive(Clone, Copy)]
 pub enum Number {
     Value(u32, Cursor),
     IllFormed,

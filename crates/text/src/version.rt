@@ -6,7 +6,7 @@ use crate::cursor::Cursor;
 use crate::number::{Number, number_at};
 
 // The four parts, in the order in which they are written and compared.
-#[derive(Drop)]
+#[derive(Clone, Copy)]
 pub struct Version {
     pub first: u32,
     pub second: u32,
@@ -29,7 +29,7 @@ pub const VERSION_PART_MOST: u32 = 65535;
 const VERSION_LAST_MOST: u32 = 4294967295;
 
 // What reading a version finds: the version and the cursor behind it.
-#[derive(Drop)]
+#[derive(Clone, Copy)]
 pub enum VersionRead {
     Value(Version, Cursor),
     IllFormed,

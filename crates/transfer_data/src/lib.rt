@@ -1,4 +1,5 @@
 // TransferData: a block of bytes is written behind those that its package received so far.
+#![tactic(auto)]
 ghost use Rattle.std.specs.Prelude.{◌≡◌, true, ◌≤◌, length};
 ghost use Rattle.base.specs.Refusals.{first_refusal, number_or_zero};
 ghost use Rattle.model.specs.Sound.{sound_for};

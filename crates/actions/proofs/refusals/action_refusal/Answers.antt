@@ -1,0 +1,25 @@
+-- `actions::refusals::action_refusal` meets its contract: 11 by the list, 12 to 15 and 21 by what the table has under the part number. Assumes nothing.
+use borrow.Author.Rules.{rules}
+use mathlib.Core.Path.{◌≡◌, refl, sym, ◌∙◌}
+use lib.ListN.{length}
+use Rattle.base.proofs.Counted.{unmapped}
+use Rattle.base.proofs.RefusalNumbers.{numbers}
+use Rattle.clusters.specs.View.{view_cluster}
+use Rattle.clusters.proofs.Along.{table-length}
+use Rattle.actions.specs.Refusals.{action_refusals, action_refusal}
+use Rattle.actions.proofs.StagedLaws.{part_of, told-untouched}
+use Rattle.actions.proofs.refusals.action_refusal.Goals.{Start}
+use Rattle.actions.proofs.refusals.action_refusal.Goals as goal
+
+long : (c : Start) → length c.args.t.clusters ≡ 64
+long c = search (rules, unmapped)
+
+pub returns-then-in_list : goal.returns-then-in_list
+unfolding action_refusal action_refusals
+returns-then-in_list c listed e = search numbers
+
+pub returns : goal.returns
+returns c listed e =
+    let a = c.args.a in
+    told-untouched _ listed _ _ _ _ (sym e ∙ c.if-in_list.false) (sym (part_of a.change (view_cluster a.cluster))) (sym (table-length c.args.t c.requires (long (goal.at.returns c).Start)))
+    (c.staged_refusal.ensures _ (view_cluster a.cluster) c.staged_in-staged.ensures refl)

@@ -1,0 +1,9 @@
+-- `rows::field::behind_field` meets its contract, by where the field ends. Assumes nothing.
+use Rattle.rows.proofs.FieldLaws.{behind-on, behind-end}
+use Rattle.rows.proofs.field.behind_field.Goals as goal
+
+pub returns-then-end-s : goal.returns-then-end-s
+returns-then-end-s c = search behind-on
+
+pub returns : goal.returns
+returns c = search behind-end

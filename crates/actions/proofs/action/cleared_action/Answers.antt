@@ -1,5 +1,4 @@
 -- `actions::action::cleared_action` meets its contract: a new cluster with no number is the cleared one. Assumes nothing.
-use borrow.Author.Rules.{rules}
 use mathlib.Core.Path.{ap}
 use Rattle.clusters.specs.declared.cluster.Cluster.{Cluster}
 use Rattle.actions.specs.declared.action.Action.{Action}

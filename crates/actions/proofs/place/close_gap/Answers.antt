@@ -4,8 +4,8 @@ use borrow.Author.Rules.{rules}
 use native.Mathlib.Omega.{arith}
 use mathlib.Core.Path.{◌≡◌, refl, sym, ap, ap₂, ◌∙◌}
 use mathlib.Core.List.{List, ◌++◌}
-use Prim.Native.Nat.{ℕ, ◌+◌, ◌-◌, ◌<◌}
-use lib.ListN.{length, take, drop, get_or, length-set, take-append-drop}
+use Prim.Native.Nat.{ℕ, ◌+◌, ◌-◌}
+use lib.ListN.{take, drop, get_or, length-set, take-append-drop}
 use lib.Seq.{drop-set-lt}
 use Rattle.base.proofs.Counted.{unmapped}
 use Rattle.clusters.specs.declared.cluster.Cluster.{Cluster}

@@ -1,18 +1,9 @@
 -- `actions::place::close_gap` meets its contract. The loop's invariant: with the cluster at i taken out, the clusters are
 -- what is asked for, and those from i on are as they were. The measure is what is left of the clusters. Assumes nothing.
-use borrow.Author.Rules.{rules}
-use native.Mathlib.Omega.{arith}
-use mathlib.Core.Path.{◌≡◌, refl, sym, ap, ap₂, ◌∙◌}
-use mathlib.Core.List.{List, ◌++◌}
-use Prim.Native.Nat.{ℕ, ◌+◌, ◌-◌, ◌<◌}
-use lib.ListN.{length, take, drop, get_or, length-set, take-append-drop}
-use lib.Seq.{drop-set-lt}
-use Rattle.base.proofs.Counted.{unmapped}
-use Rattle.clusters.specs.declared.cluster.Cluster.{Cluster}
-use Rattle.clusters.specs.declared.table.Table.{Table}
-use Rattle.clusters.specs.View.{no_cluster}
-use Rattle.actions.specs.Exact.{close_gap}
-use Rattle.actions.proofs.Arrays.{down_step, down-end, drop_more}
+use mathlib.Core.Path.{◌≡◌}
+use mathlib.Core.List.{◌++◌}
+use Prim.Native.Nat.{◌+◌, ◌-◌, ◌<◌}
+use lib.ListN.{length, take, drop}
 use Rattle.actions.proofs.place.close_gap.Given as goal
 
 abbrev pub invariant-loop-i : goal.invariant-loop-i

@@ -1,5 +1,4 @@
 -- `actions::place::insert` meets its contract. Assumes nothing.
-use borrow.Author.Rules.{rules}
 use Rattle.actions.specs.Exact.{insert}
 use Rattle.actions.proofs.place.insert.Goals as goal
 

@@ -3,9 +3,9 @@
 use borrow.Author.Rules.{rules}
 use native.Mathlib.Omega.{arith}
 use mathlib.Core.Path.{◌≡◌, refl, ap, ap₂, ◌∙◌}
-use mathlib.Core.List.{List, ◌∷◌, ◌++◌}
-use Prim.Native.Nat.{◌+◌, ◌-◌, ◌≤◌}
-use lib.ListN.{length, take, drop, length-set}
+use mathlib.Core.List.{List, ◌++◌}
+use Prim.Native.Nat.{◌+◌}
+use lib.ListN.{length-set}
 use lib.Seq.{drop-set-lt}
 use Rattle.base.proofs.Counted.{unmapped}
 use Rattle.clusters.specs.declared.cluster.Cluster.{Cluster}

@@ -1,18 +1,9 @@
 -- `actions::place::insert_at` meets its contract. The loop's invariant: with the carried cluster put at i, the clusters are
 -- what is asked for, and those behind the last are as they were. The measure is what is left of the clusters. Assumes nothing.
-use borrow.Author.Rules.{rules}
-use native.Mathlib.Omega.{arith}
-use mathlib.Core.Path.{◌≡◌, refl, ap, ap₂, ◌∙◌}
-use mathlib.Core.List.{List, ◌∷◌, ◌++◌}
-use Prim.Native.Nat.{◌+◌, ◌-◌, ◌≤◌}
-use lib.ListN.{length, take, drop, length-set}
-use lib.Seq.{drop-set-lt}
-use Rattle.base.proofs.Counted.{unmapped}
-use Rattle.clusters.specs.declared.cluster.Cluster.{Cluster}
-use Rattle.clusters.specs.declared.table.Table.{Table}
-use Rattle.clusters.specs.View.{no_cluster}
-use Rattle.actions.specs.Exact.{insert_at}
-use Rattle.actions.proofs.Arrays.{up_step, set-whole, drop_more}
+use mathlib.Core.Path.{◌≡◌}
+use mathlib.Core.List.{◌∷◌, ◌++◌}
+use Prim.Native.Nat.{◌-◌, ◌≤◌}
+use lib.ListN.{length, take, drop}
 use Rattle.actions.proofs.place.insert_at.Given as goal
 
 abbrev pub invariant-loop-i : goal.invariant-loop-i

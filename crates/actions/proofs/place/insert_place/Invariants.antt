@@ -1,17 +1,10 @@
 -- `actions::place::insert_place` meets its contract. The loop's invariant: the place for the whole table is the place for
 -- what stands from i on. The measure is what is left of the clusters. Assumes nothing.
-use borrow.Author.Rules.{rules}
-use native.Mathlib.Omega.{arith}
-use mathlib.Core.Path.{◌≡◌, sym, ap, ◌∙◌}
-use mathlib.Core.List.{◌∷◌}
-use Prim.Native.Nat.{◌+◌, ◌-◌, ◌≤◌}
-use lib.ListN.{length, drop, get_or}
-use borrow.Author.Tests.{lt-ltb, le-ltb}
-use Rattle.base.proofs.Counted.{unmapped}
-use Rattle.clusters.specs.Table.{Table}
-use Rattle.clusters.specs.View.{no_cluster, view_cluster, view_table}
+use mathlib.Core.Path.{◌≡◌}
+use Prim.Native.Nat.{◌-◌, ◌≤◌}
+use lib.ListN.{drop}
+use Rattle.clusters.specs.View.{view_table}
 use Rattle.actions.specs.Place.{insert_place_from}
-use Rattle.clusters.proofs.Along.{table_step, table-end}
 use Rattle.actions.proofs.place.insert_place.Given as goal
 
 abbrev pub invariant-loop-i : goal.invariant-loop-i

@@ -1,5 +1,4 @@
 -- `actions::place::take_out` meets its contract. Assumes nothing.
-use borrow.Author.Rules.{rules}
 use mathlib.Core.Path.{sym, ap, ◌∙◌}
 use Rattle.place_in_list.specs.declared.Found.{Found}
 use Rattle.actions.specs.Exact.{take_out_at, take_out}

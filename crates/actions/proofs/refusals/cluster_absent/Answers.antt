@@ -1,5 +1,4 @@
 -- `actions::refusals::cluster_absent` meets its contract: a case for each change. Assumes nothing.
-use borrow.Author.Rules.{rules}
 use mathlib.Core.Path.{refl, ap}
 use mathlib.Core.Bool.{not}
 use Rattle.actions.specs.declared.action.Change.TheVariants.{Install, Update, Remove}

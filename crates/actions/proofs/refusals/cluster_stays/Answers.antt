@@ -1,5 +1,4 @@
 -- `actions::refusals::cluster_stays` meets its contract: nothing staged has no mark, and otherwise a case for each change. Assumes nothing.
-use borrow.Author.Rules.{rules}
 use mathlib.Core.Path.{refl, sym, ◌∙◌}
 use Rattle.actions.specs.declared.action.Change.TheVariants.{Install, Update, Remove}
 use Rattle.actions.specs.Refusals.{cluster_stays}

@@ -1,5 +1,4 @@
 -- `actions::refusals::is_staged` meets its contract: a version and a mark stand for a cluster. Assumes nothing.
-use borrow.Author.Rules.{rules}
 use mathlib.Core.Path.{sym, ◌∙◌}
 use Rattle.actions.proofs.StagedLaws.{staged-at, staged-nothing}
 use Rattle.actions.proofs.refusals.is_staged.Goals as goal

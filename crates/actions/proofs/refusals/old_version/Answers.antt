@@ -1,5 +1,4 @@
 -- `actions::refusals::old_version` meets its contract: nothing staged is not old, and otherwise a case for each change. Assumes nothing.
-use borrow.Author.Rules.{rules}
 use mathlib.Core.Path.{refl, sym, ap, ◌∙◌}
 use mathlib.Core.Bool.{not}
 use Rattle.actions.specs.declared.action.Change.TheVariants.{Install, Update, Remove}

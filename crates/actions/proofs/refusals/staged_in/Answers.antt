@@ -1,5 +1,4 @@
 -- `actions::refusals::staged_in` meets its contract: the cluster at the place found is the one with the part number. Assumes nothing.
-use borrow.Author.Rules.{rules}
 use native.Mathlib.Omega.{arith}
 use mathlib.Core.Path.{sym, ap, ◌∙◌}
 use Rattle.clusters.proofs.Placing.{FoundIn, found_in_lem, nothing-found}

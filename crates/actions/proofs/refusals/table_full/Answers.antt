@@ -1,5 +1,4 @@
 -- `actions::refusals::table_full` meets its contract: a case for each change. Assumes nothing.
-use borrow.Author.Rules.{rules}
 use mathlib.Core.Path.{refl}
 use Rattle.actions.specs.declared.action.Change.TheVariants.{Install, Update, Remove}
 use Rattle.actions.specs.Refusals.{table_full}

@@ -14,14 +14,14 @@ use Rattle.model.specs.Journal.{Direction, to_activate, to_revert, to_rollback, 
 -- the direction that the journal has in each of the manager's states. "An accepted Activate, Revert, Rollback or Finish becomes the
 -- direction; Report answered NotAbleToRollback sets it to Activate."; in the other states it is any, for no Report is answered there
 abbrev pub DirectionIn : Phase → Direction → Type 0
-DirectionIn idle direction = Unit {0}
-DirectionIn ready direction = Unit {0}
-DirectionIn processing direction = Unit {0}
+DirectionIn idle _ = Unit {0}
+DirectionIn ready _ = Unit {0}
+DirectionIn processing _ = Unit {0}
 DirectionIn activating direction = direction ≡ to_activate
 DirectionIn verifying direction = direction ≡ to_activate
 DirectionIn activated direction = direction ≡ to_activate
 DirectionIn (rolling_back origin) direction = direction ≡ to_rollback
-DirectionIn rolled_back direction = Unit {0}
+DirectionIn rolled_back _ = Unit {0}
 DirectionIn (cleaning_up ready_cleans_up) direction = direction ≡ to_revert
 DirectionIn (cleaning_up activated_cleans_up) direction = direction ≡ to_finish
 DirectionIn (cleaning_up rolled_back_cleans_up) direction = direction ≡ to_finish

@@ -1,5 +1,6 @@
 // A call of the twelve by value. The block of TransferData is lent beside it, because an enum holds no reference.
 #![tactic(auto)]
+
 #[derive(Clone, Copy)]
 pub enum Request {
     TransferStart(u32),

@@ -1,5 +1,6 @@
 // The staged and the running table of a session.
 #![tactic(auto)]
+
 ghost use Rattle.std.specs.Prelude.{◌≡◌, ◌≤◌};
 ghost use Rattle.state.specs.View.{entries_most};
 ghost use Rattle.staging.specs.Staged.{staged_table, runs_staged, running_table};

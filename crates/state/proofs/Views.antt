@@ -1,5 +1,5 @@
 -- The structs of specs/Exact.antt as the model's values that they stand for. Assumes nothing.
-use Prim.Native.Nat.{ℕ, ◌+◌, ◌≤◌, ◌<◌}
+use Prim.Native.Nat.{ℕ, ◌≤◌, ◌<◌}
 use mathlib.Core.Path.{◌≡◌, refl, ap}
 use mathlib.Core.List.{[], ◌∷◌, ◌++◌, map}
 use mathlib.Core.Option.{none}
@@ -9,7 +9,6 @@ use Rattle.base.proofs.Counted.{counted-fits, counted-few}
 use Rattle.clusters.specs.declared.table.Table.{Table}
 use Rattle.clusters.specs.Exact.{put_at}
 use Rattle.clusters.specs.View.{view_table}
-use Rattle.model.specs.State as model
 use Rattle.model.specs.Areas as areas
 use Rattle.model.specs.Load as load
 use Rattle.model.specs.Sound.{packages_most}

@@ -1,6 +1,7 @@
 // What is done to the bytes of the lent store, by position. Every function is total: a part that does not lie in the store, and a
 // move up, leave the store as it was.
 #![tactic(auto)]
+
 ghost use Rattle.std.specs.Prelude.{◌≡◌, length, replicate};
 ghost use Rattle.store.specs.Positions.{written, cleared, moved_down};
 

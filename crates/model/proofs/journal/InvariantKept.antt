@@ -11,7 +11,7 @@ use lib.ListN.{length}
 use borrow.Author.Tests.{eqb-true, ne_eqb}
 use Rattle.base.proofs.Tests.{clash}
 use Rattle.manifest.specs.Package.{read_package}
-use Rattle.model.specs.State.{PackageState, transferring, transferred, being_processed, processed, Package, Phase, is_processing, Entry, Session, Work, State, state, Store}
+use Rattle.model.specs.State.{PackageState, transferring, transferred, being_processed, processed, Package, Phase, is_processing, Entry, Session, Work, State, Store}
 use Rattle.model.specs.Calls.{Call, transfer_data, Answer, done}
 use Rattle.model.specs.Areas.{in_state, with_block, new_package, is_transferring, is_transferred, is_being_processed, is_processed, count_in, processing_id}
 use Rattle.model.specs.Sound.{sound, received_sound}

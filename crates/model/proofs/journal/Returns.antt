@@ -11,7 +11,7 @@ use Rattle.clusters.specs.Table.{Table}
 use Rattle.actions.specs.Action.{apply_all}
 use Rattle.actions.specs.Refusals.{pass_in_turn}
 use Rattle.actions.proofs.Changes.{passed-changes}
-use Rattle.model.specs.State.{ready_cleans_up, activated_cleans_up, rolled_back_cleans_up, Phase, idle, ready, processing, activating, verifying, activated, rolling_back, rolled_back, cleaning_up, CleanUpOrigin, is_idle, Entry, Session, State, state, Store, actions}
+use Rattle.model.specs.State.{ready_cleans_up, activated_cleans_up, rolled_back_cleans_up, Phase, idle, ready, processing, activating, verifying, activated, rolling_back, rolled_back, cleaning_up, CleanUpOrigin, is_idle, Entry, Session, State, Store, actions}
 use Rattle.model.specs.Calls.{Call, work, report}
 use Rattle.model.specs.Tables.{staged, running_in, running}
 use Rattle.model.specs.Sound.{list_fits}
@@ -129,7 +129,7 @@ beginning-stays a q =
 -- in Idle the running table is the one that begins the next session
 pub idle-table : (phase : Phase) (session : Session) → is_idle phase ≡ true → running_in phase session ≡ session.beginning
 unfolding running_in
-idle-table phase session = elim phase [
+idle-table phase session = elim phase as (λ p. is_idle p ≡ true → running_in p session ≡ session.beginning) [
   | idle ↦ λ e. refl
   | ready ↦ λ e. absurd (false≢true e)
   | processing ↦ λ e. absurd (false≢true e)

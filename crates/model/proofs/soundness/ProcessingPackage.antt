@@ -1,5 +1,5 @@
 -- The package that is processing: it is found by its id, and its size is the one that is looked up. Assumes nothing.
-use mathlib.Core.Path.{◌≡◌, refl}
+use mathlib.Core.Path.{◌≡◌, refl, ap, ◌∙◌}
 use mathlib.Core.Bool.{true, false}
 use mathlib.Core.List.{List, [], ◌∷◌}
 use mathlib.Core.Option.{some}
@@ -42,7 +42,9 @@ processing-behind : (p : Package) (ps : List Package) → is_being_processed p.s
     → ProcessingPackage (p ∷ ps)
 unfolding processing_id find
 processing-behind p ps b l w =
-    record { found = w.found; here = rw b (rw (ne_eqb (processing_id ps) p.id λ z. omega arith) w.here); being = w.being }
+    let same : processing_id (p ∷ ps) ≡ processing_id ps = rw b in
+    let behind : find (processing_id ps) (p ∷ ps) ≡ find (processing_id ps) ps = rw (ne_eqb (processing_id ps) p.id λ z. omega arith) in
+    record { found = w.found; here = ap (λ (id : ℕ). find id (p ∷ ps)) same ∙ behind ∙ w.here; being = w.being }
 
 pub processing-found : (last next : ℕ) (ps : List Package) → packages_rise last next ps ≡ true → 1 ≤ count_in is_being_processed ps
     → ProcessingPackage ps

@@ -10,7 +10,7 @@ use Rattle.base.proofs.Tests.{bool_cases, cond_cases}
 use Rattle.checksum.specs.Sum.{sum_number}
 use Rattle.clusters.specs.Table.{needs_met}
 use Rattle.model.specs.State.{RollbackOrigin, CleanUpOrigin, ready_cleans_up, activated_cleans_up, rolled_back_cleans_up, Phase, idle, ready, processing, activating, verifying, activated, rolling_back, rolled_back, cleaning_up, Transfers, Session, Work, State, state, Store}
-use Rattle.model.specs.Calls.{Call, transfer_start, transfer_data, transfer_exit, delete_transfer, process, work, cancel, revert, activate, rollback, finish, report, done}
+use Rattle.model.specs.Calls.{Call, transfer_start, transfer_data, transfer_exit, delete_transfer, process, work, cancel, revert, activate, rollback, finish, report}
 use Rattle.model.specs.Permissions.{allowed}
 use Rattle.model.specs.Areas.{area_of, processing_id}
 use Rattle.model.specs.Tables.{staged}
@@ -24,7 +24,7 @@ use Rattle.model.proofs.transitions.AcceptingPackages.{start_is, block-is, exit-
 -- Process is allowed in Idle and Ready
 may-process : (phase : Phase) (id : ℕ) → allowed phase (process id) ≡ true → AtRest phase
 unfolding allowed
-may-process phase id = elim phase [
+may-process phase id = elim phase as (λ p. allowed p (process id) ≡ true → AtRest p) [
   | idle ↦ λ e. in_idle
   | ready ↦ λ e. in_ready
   | processing ↦ λ e. absurd (false≢true e)
@@ -66,7 +66,7 @@ module _ (t : Transfers) (session : Session) (store : Store) where
   revert-is : (phase : Phase) (k : Option Work) → allowed phase revert ≡ true
       → Accepted (state phase t session k) store revert (act (state phase t session k) store revert)
   unfolding act allowed
-  revert-is phase k = elim phase [
+  revert-is phase k = elim phase as (λ p. allowed p revert ≡ true → Accepted (state p t session k) store revert (act (state p t session k) store revert)) [
     | idle ↦ λ e. absurd (false≢true e)
     | ready ↦ λ e. moves reverts
     | processing ↦ λ e. absurd (false≢true e)
@@ -81,7 +81,7 @@ module _ (t : Transfers) (session : Session) (store : Store) where
   activate-is : (phase : Phase) (k : Option Work) → allowed phase activate ≡ true
       → Accepted (state phase t session k) store activate (act (state phase t session k) store activate)
   unfolding act allowed
-  activate-is phase k = elim phase [
+  activate-is phase k = elim phase as (λ p. allowed p activate ≡ true → Accepted (state p t session k) store activate (act (state p t session k) store activate)) [
     | idle ↦ λ e. absurd (false≢true e)
     | ready ↦ λ e. moves activates
     | processing ↦ λ e. absurd (false≢true e)
@@ -96,7 +96,7 @@ module _ (t : Transfers) (session : Session) (store : Store) where
   rollback-is : (phase : Phase) (k : Option Work) → allowed phase rollback ≡ true
       → Accepted (state phase t session k) store rollback (act (state phase t session k) store rollback)
   unfolding act allowed
-  rollback-is phase k = elim phase [
+  rollback-is phase k = elim phase as (λ p. allowed p rollback ≡ true → Accepted (state p t session k) store rollback (act (state p t session k) store rollback)) [
     | idle ↦ λ e. absurd (false≢true e)
     | ready ↦ λ e. absurd (false≢true e)
     | processing ↦ λ e. absurd (false≢true e)
@@ -111,7 +111,7 @@ module _ (t : Transfers) (session : Session) (store : Store) where
   finish-is : (phase : Phase) (k : Option Work) → allowed phase finish ≡ true
       → Accepted (state phase t session k) store finish (act (state phase t session k) store finish)
   unfolding act allowed
-  finish-is phase k = elim phase [
+  finish-is phase k = elim phase as (λ p. allowed p finish ≡ true → Accepted (state p t session k) store finish (act (state p t session k) store finish)) [
     | idle ↦ λ e. absurd (false≢true e)
     | ready ↦ λ e. absurd (false≢true e)
     | processing ↦ λ e. absurd (false≢true e)
@@ -154,7 +154,7 @@ module _ (t : Transfers) (session : Session) (store : Store) where
   report-is : (phase : Phase) (k : Option Work) (good : Bool) → allowed phase (report good) ≡ true
       → Accepted (state phase t session k) store (report good) (act (state phase t session k) store (report good))
   unfolding act allowed
-  report-is phase k good = elim phase [
+  report-is phase k good = elim phase as (λ p. allowed p (report good) ≡ true → Accepted (state p t session k) store (report good) (act (state p t session k) store (report good))) [
     | idle ↦ λ e. absurd (false≢true e)
     | ready ↦ λ e. absurd (false≢true e)
     | processing ↦ λ e. absurd (false≢true e)
@@ -170,7 +170,7 @@ module _ (t : Transfers) (session : Session) (store : Store) where
 processing-alone : (test : Phase → Bool) → test idle ≡ false → test ready ≡ false → test activating ≡ false → test verifying ≡ false
     → test activated ≡ false → ((origin : RollbackOrigin) → test (rolling_back origin) ≡ false) → test rolled_back ≡ false
     → ((origin : CleanUpOrigin) → test (cleaning_up origin) ≡ false) → (phase : Phase) → test phase ≡ true → phase ≡ processing
-processing-alone test i r a v d b l c phase = elim phase [
+processing-alone test i r a v d b l c phase = elim phase as (λ p. test p ≡ true → p ≡ processing) [
   | idle ↦ λ e. absurd (false≢true (sym i ∙ e))
   | ready ↦ λ e. absurd (false≢true (sym r ∙ e))
   | processing ↦ λ e. refl

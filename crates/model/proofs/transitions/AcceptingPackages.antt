@@ -11,7 +11,7 @@ use Rattle.base.specs.Refusals.{first_refusal}
 use Rattle.base.proofs.Refusals.{none-accepted}
 use Rattle.base.proofs.Tests.{or_left_false, or_right_false}
 use Rattle.actions.specs.Refusals.{passes}
-use Rattle.model.specs.State.{State, state, Store}
+use Rattle.model.specs.State.{State, Store}
 use Rattle.model.specs.Calls.{transfer_start, transfer_data, transfer_exit, delete_transfer, process}
 use Rattle.model.specs.Areas.{package_of, is_being_processed}
 use Rattle.model.specs.Step.{manifest_of, area_read, own_refusals, act}

@@ -189,7 +189,7 @@ does_move t session k store revert_fails h = does _ store h _ refl refl nothing_
 does_move t session k store cleaning_activated_fails h = does _ store h _ refl refl nothing_left
 does_move t session k store cleaning_rolled_back_fails h = does _ store h _ refl refl nothing_left
 
-does-end : {origin : CleanUpOrigin} {table : Table} (t : Transfers) (session : Session) (k : Option Work) (store : Store)
+does-end : {origin : CleanUpOrigin} (t : Transfers) (session : Session) {table : Table} (k : Option Work) (store : Store)
     → Ends session origin table → sound (state (cleaning_up origin) t session k) store ≡ true
     → step (state (cleaning_up origin) t session k) store (report true) ≡ cleaned_up (state (cleaning_up origin) t session k) store table
 unfolding own_refusals allowed act report_outcome

@@ -1,0 +1,32 @@
+-- `listed_actions::in_turn::staged_after` meets its contract: a case for each change. Assumes nothing.
+use native.Mathlib.Omega.{arith}
+use mathlib.Core.Path.{◌≡◌, refl}
+use Prim.Native.Nat.{ℕ, ◌-◌}
+use borrow.Author.Rules.{rules}
+use Rattle.actions.specs.declared.action.Change.TheVariants.{Install, Update, Remove}
+use Rattle.actions.specs.Action.{Action}
+use Rattle.actions.proofs.StagedLaws.{by-change}
+use Rattle.listed_actions.specs.InTurn.{staged_after}
+use Rattle.listed_actions.proofs.in_turn.staged_after.Goals as goal
+
+abbrev after : ℕ → Action → ℕ
+after staged a = staged_after a staged
+
+pub returns-in-Install : goal.returns-in-Install
+unfolding staged_after
+returns-in-Install c d = by-change (after c.args.staged) _ Install d _ c.in-Install.is refl
+
+pub returns-in-Update : goal.returns-in-Update
+unfolding staged_after
+returns-in-Update c d = by-change (after c.args.staged) _ Update d _ c.in-Update.is refl
+
+pub returns-then-staged-lt1 : goal.returns-then-staged-lt1
+unfolding staged_after
+returns-then-staged-lt1 c d =
+    let n = c.args.staged in
+    let e : 0 ≡ n - 1 = omega arith in
+    by-change (after n) _ Remove d _ c.in-Remove.is e
+
+pub returns-else-staged-lt1 : goal.returns-else-staged-lt1
+unfolding staged_after
+returns-else-staged-lt1 c d = by-change (after c.args.staged) _ Remove d _ c.in-Remove.is refl

@@ -1,0 +1,8 @@
+-- `state::work::is_cleared_work` meets its contract: the same tests, two of them by calls. Assumes nothing.
+use Rattle.state.specs.View.{is_cleared_work}
+use Rattle.state.proofs.work.is_cleared_work.Goals as goal
+
+pub returns : goal.returns
+unfolding is_cleared_work
+returns c =
+    rw (← c.is_install.ensures, ← c.is_no_version.ensures)

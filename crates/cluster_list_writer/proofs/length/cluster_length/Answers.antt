@@ -10,7 +10,6 @@ use Rattle.cluster_list.specs.Write.{five_names, need_cells, need_lines_text}
 use Rattle.cluster_list.proofs.Lengths.{cluster-lines-most}
 use Rattle.cluster_list_writer.specs.Fields.{fields_text}
 use Rattle.cluster_list_writer.proofs.Texts.{cluster-few, cluster-length-parts}
-use borrow.Author.Rules.{rules}
 use Rattle.cluster_list_writer.proofs.length.cluster_length.Goals.{Start}
 use Rattle.cluster_list_writer.proofs.length.cluster_length.Goals as goal
 

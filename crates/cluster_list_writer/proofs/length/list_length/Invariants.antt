@@ -1,17 +1,11 @@
 -- `cluster_list_writer::length::list_length` meets its contract. The loop's invariant: the total and the length of the lines of the
 -- clusters from i on make the length of the list. The measure is what is left of the clusters. Assumes nothing.
-use Prim.Native.Nat.{◌+◌, ◌-◌, ◌≤◌}
-use native.Mathlib.Omega.{arith}
-use mathlib.Core.Path.{◌≡◌, ap}
+use Prim.Native.Nat.{◌+◌, ◌-◌}
+use mathlib.Core.Path.{◌≡◌}
 use lib.ListN.{length}
-use borrow.Author.Rules.{rules}
-use Rattle.base.proofs.Counted.{unmapped}
 use Rattle.clusters.specs.View.{view_table}
-use Rattle.clusters.proofs.Views.{few-of-within}
 use Rattle.cluster_list.specs.Write.{write_list}
-use Rattle.cluster_list.proofs.Lengths.{list-most}
-use Rattle.cluster_list_writer.proofs.Texts.{cluster_lines_at, clusters_text_from, clusters-over, clusters-length-left}
-use Rattle.cluster_list_writer.proofs.Texts.{cluster-there-within, list-length-parts}
+use Rattle.cluster_list_writer.proofs.Texts.{clusters_text_from}
 use Rattle.cluster_list_writer.proofs.length.list_length.Given as goal
 
 abbrev pub invariant-loop-i : goal.invariant-loop-i

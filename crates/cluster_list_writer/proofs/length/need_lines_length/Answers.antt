@@ -1,6 +1,6 @@
 -- `cluster_list_writer::length::need_lines_length` meets its contract. The loop's invariant: the total and the length of the lines
 -- from i on make the length of all. The measure is what is left of the needs. Assumes nothing.
-use Prim.Native.Nat.{◌+◌, ◌-◌, ◌≤◌}
+use Prim.Native.Nat.{◌+◌, ◌≤◌}
 use native.Mathlib.Omega.{arith}
 use mathlib.Core.Path.{◌≡◌, ap}
 use mathlib.Core.List.{[], ◌∷◌}

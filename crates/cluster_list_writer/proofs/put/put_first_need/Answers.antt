@@ -18,12 +18,12 @@ long c = search (rules, unmapped)
 
 none-text : (c : Then-c-lt1) → fields_text (need_cells (view_cluster c.args.c).needs) ≡ comma ∷ (comma ∷ [])
 none-text c =
-    no-first-cells c.args.c c.requires.0 (long c.before.before) c.if-c-lt1.true
+    no-first-cells c.args.c c.requires.0 (long c.before.before.before) c.if-c-lt1.true
 
 some-text : (c : Else-c-lt1) → (let d = c.args.c in
     fields_text (need_cells (view_cluster d).needs) ≡ fields_text (need_cells (get_or d.needs 0 no_need ∷ [])))
 some-text c =
-    first-cells c.args.c c.requires.0 (long c.before.before) c.if-c-lt1.false
+    first-cells c.args.c c.requires.0 (long c.before.before.before) c.if-c-lt1.false
 
 pub put_two-requires : goal.put_two-requires
 put_two-requires c = omega (arith, ap length (none-text (goal.at.put_two-requires c).Then-c-lt1))

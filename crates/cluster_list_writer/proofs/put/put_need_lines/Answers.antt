@@ -1,6 +1,6 @@
 -- `cluster_list_writer::put::put_need_lines` meets its contract. The loop's invariant: with the lines of the needs from i on put at
 -- `at`, the whole text stands. The measure is what is left of the needs. Assumes nothing.
-use Prim.Native.Nat.{◌+◌, ◌-◌}
+use Prim.Native.Nat.{◌+◌}
 use native.Mathlib.Omega.{arith}
 use mathlib.Core.Path.{◌≡◌}
 use mathlib.Core.List.{◌++◌}
@@ -8,7 +8,7 @@ use lib.ListN.{length}
 use borrow.Author.Rules.{rules}
 use Rattle.base.proofs.Counted.{unmapped}
 use Rattle.cluster_list_writer.proofs.Texts.{need_line_at, need_lines_from, needs-left, needs-over}
-use Rattle.text.proofs.Putting.{Putting, putting-begins, putting-room, putting-on, putting-done}
+use Rattle.text.proofs.Putting.{putting-begins, putting-room, putting-on, putting-done}
 use Rattle.cluster_list_writer.proofs.put.put_need_lines.Goals.{In-loop-i, Start}
 use Rattle.cluster_list_writer.proofs.put.put_need_lines.Goals as goal
 

@@ -1,7 +1,6 @@
 -- `cluster_list_writer::put::put_pair` meets its contract: each part put behind the one before, with its room. Assumes nothing.
 use native.Mathlib.Omega.{arith}
 use mathlib.Core.List.{[], ◌∷◌}
-use Rattle.text.proofs.PutLaws.{put-length}
 use Rattle.base.specs.Quoted.{comma}
 use Rattle.text.specs.Digits.{digits}
 use Rattle.text.specs.Version.{version_text}
@@ -21,9 +20,6 @@ put_number-behind_part-requires c = search (room-first-part (pair (goal.at.put_n
 pub bounds-buf-behind_part : goal.bounds-buf-behind_part
 bounds-buf-behind_part c = search (room-between (pair (goal.at.bounds-buf-behind_part c).Start))
 
-pub overflow_add-behind_part : goal.overflow_add-behind_part
-overflow_add-behind_part c = omega (arith, slice-write-buf (goal.at.overflow_add-behind_part c).After-slice_known-2-1)
-
 pub put_version-behind_version-requires : goal.put_version-behind_version-requires
 put_version-behind_version-requires c = search (room-second-part (pair (goal.at.put_version-behind_version-requires c).Start))
 
@@ -33,5 +29,14 @@ bounds-buf-behind_version c = search (room-behind (pair (goal.at.bounds-buf-behi
 pub returns : goal.returns
 returns c = search (pair_put (pair (goal.at.returns c).Start))
 
+-- each text that is put ends within the buffer, so the place behind it fits
+pub overflow_add-behind_part : goal.overflow_add-behind_part
+overflow_add-behind_part c =
+    let texts = pair (goal.at.overflow_add-behind_part c).Start in
+    omega (arith, room-between texts _ _ c.requires _ _ c.put_number-behind_part.ensures)
+
 pub overflow_add-result : goal.overflow_add-result
-overflow_add-result c = omega (arith, (returns (goal.at.overflow_add-result c).After-slice_known-3-1).behind)
+overflow_add-result c =
+    let texts = pair (goal.at.overflow_add-result c).Start in
+    let put = pair_put texts _ _ c.requires _ _ c.put_number-behind_part.ensures _ _ c.put_version-behind_version.ensures in
+    omega (arith, put.behind)

@@ -2,7 +2,6 @@
 use native.Mathlib.Omega.{arith}
 use lib.ListN.{length-set}
 use Rattle.cluster_list_writer.proofs.PutParts.{two-put}
-use borrow.Author.Rules.{rules}
 use Rattle.cluster_list_writer.proofs.put.put_two.Goals as goal
 
 pub bounds-buf-at-2 : goal.bounds-buf-at-2

@@ -1,17 +1,15 @@
 -- `cluster_list_writer::write::put_clusters` meets its contract. The loop's invariant: with the lines of the clusters from i on put at
 -- `at`, the whole text stands. The measure is what is left of the clusters. Assumes nothing.
-use Prim.Native.Nat.{◌+◌, ◌-◌, ◌≤◌}
+use Prim.Native.Nat.{◌+◌, ◌≤◌}
 use native.Mathlib.Omega.{arith}
 use mathlib.Core.Path.{◌≡◌}
 use mathlib.Core.List.{◌++◌}
 use lib.ListN.{length}
 use borrow.Author.Rules.{rules}
 use Rattle.base.proofs.Counted.{unmapped}
-use Rattle.clusters.specs.View.{view_table}
 use Rattle.clusters.proofs.Views.{few-of-within, few-needs-at}
-use Rattle.cluster_list.specs.Write.{five_names, clusters_text}
 use Rattle.cluster_list_writer.proofs.Texts.{cluster_lines_at, clusters_text_from, clusters-left, clusters-over}
-use Rattle.text.proofs.Putting.{Putting, putting-begins, putting-room, putting-on, putting-done}
+use Rattle.text.proofs.Putting.{putting-begins, putting-room, putting-on, putting-done}
 use Rattle.cluster_list_writer.proofs.write.put_clusters.Goals.{In-loop-i, Start}
 use Rattle.cluster_list_writer.proofs.write.put_clusters.Goals as goal
 

@@ -1,10 +1,10 @@
 -- A part of the store that is lent and comes back with other bytes, as `borrow.Rule.Slice.PartMut` puts it back. Assumes nothing.
 use Prim.Native.Nat.{ℕ, ◌+◌, ◌-◌, ◌≤◌}
 use mathlib.Core.Path.{◌≡◌}
-use mathlib.Core.List.{List, ◌++◌, append-nil}
+use mathlib.Core.List.{List}
 use native.Mathlib.Omega.{arith}
-use lib.ListN.{length, take, drop, replicate, length-drop, drop_of_length-le}
-use lib.Seq.{take-length, take_all, drop-drop}
+use lib.ListN.{length, take, drop, replicate}
+use lib.Seq.{drop-drop}
 use borrow.Rule.Slice.PartMut.{put_mid}
 use Rattle.model.specs.State.{Store}
 use Rattle.model.specs.Areas.{overwritten}
@@ -19,11 +19,10 @@ part-cleared from to store part h fits e =
     let end : from + (to - from) ≡ to = omega arith in
     rw (e, length_part from (to - from) store (omega arith), drop-drop (to - from) from store, end, cleared-inside from to store h fits)
 
--- a block stands at the front of the part from `at` to the end
+-- a block stands in the part from `at` on that is as long as it
 pub part-written : (at : ℕ) (block : List ℕ) (store : Store) (part : List ℕ) → at ≤ length store → length block ≤ length store - at
-    → part ≡ take (length block) block ++ drop (length block) (take (length store - at) (drop at store))
-    → put_mid at (length store - at) store part ≡ written at block store
+    → part ≡ block → put_mid at (at + length block - at) store part ≡ written at block store
 unfolding overwritten
 part-written at block store part h fits e =
-    let rest : length (drop at store) ≤ length store - at = rw length-drop (omega arith) in
-    rw (e, take-length block, take_all (length store - at) (drop at store) rest, drop_of_length-le (drop at store) {i = length store - at} rest, append-nil, drop-drop (length block) at store, written-inside at block store (omega arith))
+    let n : at + length block - at ≡ length block = omega arith in
+    rw (e, n, drop-drop (length block) at store, written-inside at block store (omega arith))

@@ -29,7 +29,7 @@ pub fn clear_part(store: &mut [u8], from: usize, to: usize)
     clear(&mut store[from..to]);
 }
 
-// Writes a block from `at` on: the part of the store from there is lent to the copier.
+// Writes a block from `at` on: the part of the store that it is as long as is lent to the copier.
 pub fn put_block(store: &mut [u8], at: usize, block: &[u8])
     ensures { store.new ≡ written at block.now store.old }
 {
@@ -39,7 +39,7 @@ pub fn put_block(store: &mut [u8], at: usize, block: &[u8])
     if store.len() - at < block.len() {
         return;
     }
-    bytes::copy(block, &mut store[at..]);
+    store[at..at + block.len()].copy_from_slice(block);
 }
 
 // Moves the `count` bytes from `from` on down to `to`, the lowest first, so that each is read before it is overwritten. Where the two are

@@ -3,9 +3,7 @@
 use borrow.Author.Rules.{rules}
 use native.Mathlib.Omega.{arith}
 use mathlib.Core.Path.{◌≡◌, refl, ◌∙◌}
-use mathlib.Core.List.{map}
-use Prim.Native.Nat.{◌-◌, ◌≤◌}
-use lib.ListN.{length, take, length-set}
+use lib.ListN.{length, length-set}
 use Rattle.base.proofs.Counted.{unmapped}
 use Rattle.clusters.proofs.ColumnLaws.{fill_step}
 use Rattle.state.specs.View.{entries_most}

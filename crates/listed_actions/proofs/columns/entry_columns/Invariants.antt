@@ -1,13 +1,9 @@
 -- `listed_actions::columns::entry_columns` meets its contract. The loop's invariant: the first i places of each column are those of
 -- the first i entries. The measure is what is left of the entries. Assumes nothing.
-use borrow.Author.Rules.{rules}
-use native.Mathlib.Omega.{arith}
-use mathlib.Core.Path.{◌≡◌, refl, ◌∙◌}
+use mathlib.Core.Path.{◌≡◌}
 use mathlib.Core.List.{map}
 use Prim.Native.Nat.{◌-◌, ◌≤◌}
-use lib.ListN.{length, take, length-set}
-use Rattle.base.proofs.Counted.{unmapped}
-use Rattle.clusters.proofs.ColumnLaws.{fill_step}
+use lib.ListN.{length, take}
 use Rattle.state.specs.View.{entries_most}
 use Rattle.listed_actions.specs.Listed.{entry_id, entry_part}
 use Rattle.listed_actions.proofs.columns.entry_columns.Given as goal

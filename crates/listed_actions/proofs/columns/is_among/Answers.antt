@@ -1,5 +1,4 @@
 -- `listed_actions::columns::is_among` meets its contract: by what the search of the column finds. Assumes nothing.
-use borrow.Author.Rules.{rules}
 use Rattle.listed_actions.proofs.Among.{among-at, among_none}
 use Rattle.listed_actions.proofs.columns.is_among.Goals as goal
 

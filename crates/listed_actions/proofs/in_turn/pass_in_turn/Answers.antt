@@ -4,18 +4,17 @@
 use borrow.Author.Rules.{rules}
 use native.Mathlib.Omega.{arith}
 use mathlib.Core.Path.{◌≡◌, refl, sym, ap, ◌∙◌}
-use mathlib.Core.Bool.{true, false}
+use mathlib.Core.Bool.{false}
 use mathlib.Core.List.{List, []}
-use Prim.Native.Nat.{ℕ, ◌+◌, ◌-◌, ◌≤◌, ◌<◌}
+use Prim.Native.Nat.{ℕ, ◌+◌, ◌<◌}
 use lib.Dec.{eqb}
 use lib.ListN.{length, take, drop, get_or}
 use borrow.Author.Tests.{eq-eqb, ne_eqb}
 use Rattle.base.proofs.Counted.{unmapped, from_end}
-use Rattle.clusters.specs.Table.{Table, find, table_within, clusters_most}
+use Rattle.clusters.specs.Table.{Table, find, clusters_most}
 use Rattle.clusters.specs.View.{no_version, view_cluster}
 use Rattle.clusters.specs.Columns.{ColumnsOf}
-use Rattle.actions.specs.Action.{Action, actions_within}
-use Rattle.actions.specs.Refusals.{pass_in_turn}
+use Rattle.actions.specs.Action.{Action}
 use Rattle.actions.specs.Staged.{staged_as}
 use Rattle.actions.proofs.StagedLaws.{part_of}
 use Rattle.state.specs.View.{entries_most, no_entry}
@@ -33,30 +32,18 @@ below : (c : After-place_or_first-at) → c.place_or_first-at.result < clusters_
 below c =
     rw c.place_or_first-at.ensures (place-or-first-below _ _ _ _ _ c.requires.0 (omega arith) c.place_of-place.ensures)
 
--- ---- the places on the way to the answer on 12 to 15 and 21
-abbrev with-place : tie.After-staged-refusal invariant-loop decreases-loop → tie.After-place-or-first invariant-loop decreases-loop
-with-place k = k.before.before.before.before.before
-
-abbrev untouched : tie.After-staged-refusal invariant-loop decreases-loop → tie.Else1 invariant-loop decreases-loop
-untouched k = (with-place k).before.before.before.before
-
-abbrev turn : tie.After-staged-refusal invariant-loop decreases-loop → tie.In-loop invariant-loop decreases-loop
-turn k = (untouched k).before.before.before.before.before.before.before
-
 -- the number is 0 exactly where the entry's action passes 12 to 15 and 21
-told : (c : After-staged_refusal) → (let x = turn c in let a = x.before.before.before.args in
-    (t : Table) → ColumnsOf a.t1 t → eqb c.staged_refusal.result 0 ≡ passes_untouched t x.before.loop.staged (entry_action (get_or a.t2 x.before.loop.i no_entry)))
+told : (c : After-staged_refusal) → (let a = c.args in
+    (t : Table) → ColumnsOf a.columns t → eqb c.staged_refusal.result 0 ≡ passes_untouched t c.loop-i.staged (entry_action (get_or a.entries c.loop-i.i no_entry)))
 told c t of =
-    let x = turn c in
-    let a = x.before.before.before.args in
-    let e = get_or a.t2 x.before.loop.i no_entry in
-    let c = view_cluster e.action.cluster in
-    let p = with-place c in
-    let here : c.staged_at.result ≡ staged_as (find c.part t) =
+    let a = c.args in
+    let e = get_or a.entries c.loop-i.i no_entry in
+    let cluster = view_cluster e.action.cluster in
+    let here : c.staged_at.result ≡ staged_as (find cluster.part t) =
     c.staged_at.ensures
-    ∙ ap (λ (at : ℕ). staged_at p.before.place_of.result (get_or a.t1.versions at no_version) (get_or a.t1.marks at false)) p.place-or-first.ensures
-    ∙ staged-by-place a.t1 t of c.part no_version false p.before.place_of.result p.before.place_of.ensures in
-    zero-untouched t _ _ _ _ (sym (part_of e.action.change c)) (c.staged_refusal.ensures _ c here refl)
+    ∙ ap (λ (at : ℕ). staged_at c.place_of-place.result (get_or a.columns.versions at no_version) (get_or a.columns.marks at false)) c.place_or_first-at.ensures
+    ∙ staged-by-place a.columns t of cluster.part no_version false c.place_of-place.result c.place_of-place.ensures in
+    zero-untouched t _ _ _ _ (sym (part_of e.action.change cluster)) (c.staged_refusal.ensures _ cluster here refl)
 
 pub loop-i-init : goal.loop-i-init
 loop-i-init c = (
@@ -70,7 +57,9 @@ is_among-requires c = (omega arith, search rules)
 
 pub returns-then-is_among : goal.returns-then-is_among
 returns-then-is_among c t of w within =
-    stops-touched t c.args.entries c.args.count c.loop-i.i c.loop-i.staged c.entry_columns-listed.result.parts (omega (arith, long c, c.requires.1)) c.loop-i-test.true c.entry_columns-listed.ensures.parts _ _ (c.loop-i.invariant.2 t of w within) (sym c.is_among.ensures ∙ c.if-is_among.true)
+    let l = c.loop-i in
+    let s = (goal.at.returns-then-is_among c).Start in
+    stops-touched t c.args.entries c.args.count l.i l.staged c.entry_columns-listed.result.parts (omega (arith, long s, c.requires.1)) c.loop-i-test.true c.entry_columns-listed.ensures.parts _ _ (l.invariant.2 t of w within) (sym c.is_among.ensures ∙ c.if-is_among.true)
 
 pub offset_bounds-columns-at : goal.offset_bounds-columns-at
 offset_bounds-columns-at c = let h = below (goal.at.offset_bounds-columns-at c).After-place_or_first-at in omega arith
@@ -83,23 +72,24 @@ bounds-columns-at-in-loop-i c = below (goal.at.bounds-columns-at-in-loop-i c).Af
 
 pub returns-then-staged_refusal-ne0 : goal.returns-then-staged_refusal-ne0
 returns-then-staged_refusal-ne0 c t of w within =
-    let x = turn (goal.at.returns-then-staged_refusal-ne0 c).After-staged_refusal in
-    let s = x.before.before.before in
-    stops-refused t s.args.t2 s.args.count x.before.loop.i x.before.loop.staged x.before.before.entry-columns.result.parts (omega (arith, long s, s.pre.1)) x.loop-test.taken x.before.before.entry-columns.ensures.parts _ _ (x.before.loop.inv.2 t of w within) (sym (untouched (goal.at.returns-then-staged_refusal-ne0 c).After-staged_refusal).before.is_among.ensures ∙ (untouched (goal.at.returns-then-staged_refusal-ne0 c).After-staged_refusal).if1.false) (sym (told (goal.at.returns-then-staged_refusal-ne0 c).After-staged_refusal t of) ∙ ne_eqb _ _ c.if-staged_refusal-ne0.true)
+    let l = c.loop-i in
+    let s = (goal.at.returns-then-staged_refusal-ne0 c).Start in
+    let k = (goal.at.returns-then-staged_refusal-ne0 c).After-staged_refusal in
+    stops-refused t c.args.entries c.args.count l.i l.staged c.entry_columns-listed.result.parts (omega (arith, long s, c.requires.1)) c.loop-i-test.true c.entry_columns-listed.ensures.parts _ _ (l.invariant.2 t of w within) (sym c.is_among.ensures ∙ c.if-is_among.false) (sym (told k t of) ∙ ne_eqb _ _ c.if-staged_refusal-ne0.true)
 
 pub loop-i-preserved : goal.loop-i-preserved
 loop-i-preserved c =
-    let x = turn (goal.at.loop-i-preserved c).After-staged_refusal in
-    let s = x.before.before.before in
-    let i = x.before.loop.i in
-    let listed = listed_actions s.args.t2 s.args.count in
-    let e = get_or s.args.t2 i no_entry in
-    let after : c.staged_after-staged.result ≡ staged_after (entry_action e) x.before.loop.staged = c.staged_after-staged.ensures (view_cluster e.action.cluster) in (
-      omega (arith, x.loop-test.taken),
-      omega (arith, after, at-most-one-more (entry_action e) x.before.loop.staged, x.before.loop.inv.1),
+    let l = c.loop-i in
+    let s = (goal.at.loop-i-preserved c).Start in
+    let k = (goal.at.loop-i-preserved c).After-staged_refusal in
+    let listed = listed_actions c.args.entries c.args.count in
+    let e = get_or c.args.entries l.i no_entry in
+    let after : c.staged_after-staged.result ≡ staged_after (entry_action e) l.staged = c.staged_after-staged.ensures (view_cluster e.action.cluster) in (
+      omega (arith, c.loop-i-test.true),
+      omega (arith, after, at-most-one-more (entry_action e) l.staged, l.invariant.1),
       λ t of w within.
-          goes_on t s.args.t2 s.args.count i x.before.loop.staged x.before.before.entry-columns.result.parts (omega (arith, long s, s.pre.1)) x.loop-test.taken x.before.before.entry-columns.ensures.parts _ _ (x.before.loop.inv.2 t of w within) (sym (untouched (goal.at.loop-i-preserved c).After-staged_refusal).before.is_among.ensures ∙ (untouched (goal.at.loop-i-preserved c).After-staged_refusal).if1.false) (sym (told (goal.at.loop-i-preserved c).After-staged_refusal t of) ∙ eq-eqb _ _ c.if-staged_refusal-ne0.false)
-          ∙ ap (λ (n : ℕ). pass_in_turn_on t n (take (i + 1) listed) (drop (i + 1) listed)) (sym after),
+          goes_on t c.args.entries c.args.count l.i l.staged c.entry_columns-listed.result.parts (omega (arith, long s, c.requires.1)) c.loop-i-test.true c.entry_columns-listed.ensures.parts _ _ (l.invariant.2 t of w within) (sym c.is_among.ensures ∙ c.if-is_among.false) (sym (told k t of) ∙ eq-eqb _ _ c.if-staged_refusal-ne0.false)
+          ∙ ap (λ (n : ℕ). pass_in_turn_on t n (take (l.i + 1) listed) (drop (l.i + 1) listed)) (sym after),
     )
 
 pub returns : goal.returns

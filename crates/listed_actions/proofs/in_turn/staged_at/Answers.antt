@@ -1,5 +1,4 @@
 -- `listed_actions::in_turn::staged_at` meets its contract: a case for each answer of the search. Assumes nothing.
-use borrow.Author.Rules.{rules}
 use Rattle.listed_actions.proofs.in_turn.staged_at.Goals as goal
 
 pub returns-in-At : goal.returns-in-At

@@ -1,5 +1,6 @@
 // Cancel: the cancel is noted, and the next Work ends the processing by it.
 #![tactic(auto)]
+
 ghost use Rattle.std.specs.Prelude.{◌≡◌, true, length};
 ghost use Rattle.model.specs.Calls.{cancel};
 ghost use Rattle.model.specs.Sound.{sound_for};

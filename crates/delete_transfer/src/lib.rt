@@ -1,5 +1,6 @@
 // DeleteTransfer: a package is taken out, and its area with it.
 #![tactic(auto)]
+
 ghost use Rattle.std.specs.Prelude.{◌≡◌, true, ◌≤◌, length};
 ghost use Rattle.base.specs.Refusals.{first_refusal, number_or_zero};
 ghost use Rattle.model.specs.Areas.{declared};

@@ -1,6 +1,7 @@
 // Load: "Load takes such a list (any other text is ill-formed), a first transfer id 1 to 4,294,967,295, a lent store of at most
 // 16,777,216 bytes, and a state that it gives back when refused. It fills the store with 0 and gives the state Idle."
 #![tactic(auto)]
+
 ghost use Rattle.std.specs.Prelude.{◌≡◌};
 ghost use Rattle.state.specs.Outcome.{outcome, view_answered, SoundIfAccepted};
 ghost use Rattle.load.specs.Exact.{load, model_load};

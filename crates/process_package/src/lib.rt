@@ -1,5 +1,6 @@
 // Process: a package that is Transferred is Processing, and the state keeps what its text says.
 #![tactic(auto)]
+
 mod checks;
 
 ghost use Rattle.std.specs.Prelude.{◌≡◌, true, ◌<◌, length};

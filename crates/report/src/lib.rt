@@ -1,5 +1,6 @@
 // Report: the machine says whether an activation, a verification, a rollback or a clean-up was good.
 #![tactic(auto)]
+
 ghost use Rattle.std.specs.Prelude.{◌≡◌, true, ◌≤◌, length};
 ghost use Rattle.clusters.specs.Table.{needs_met};
 ghost use Rattle.clusters.specs.View.{view_table};

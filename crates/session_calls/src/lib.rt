@@ -1,5 +1,6 @@
 // The calls that move the manager's state and change nothing else: Revert, Activate, Rollback and Finish.
 #![tactic(auto)]
+
 pub mod activate;
 pub mod finish;
 mod moves;

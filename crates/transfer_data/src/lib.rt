@@ -1,5 +1,6 @@
 // TransferData: a block of bytes is written behind those that its package received so far.
 #![tactic(auto)]
+
 ghost use Rattle.std.specs.Prelude.{◌≡◌, true, ◌≤◌, length};
 ghost use Rattle.base.specs.Refusals.{first_refusal, number_or_zero};
 ghost use Rattle.model.specs.Sound.{sound_for};

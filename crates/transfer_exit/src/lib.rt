@@ -1,5 +1,6 @@
 // TransferExit: a package that has all its bytes is checked, and is Transferred.
 #![tactic(auto)]
+
 ghost use Rattle.std.specs.Prelude.{◌≡◌, true, ◌<◌, length};
 ghost use Rattle.base.specs.Refusals.{first_refusal, number_or_zero};
 ghost use Rattle.model.specs.Calls.{transfer_exit};

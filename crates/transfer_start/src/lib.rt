@@ -1,5 +1,6 @@
 // TransferStart: a package of a size is begun behind the others.
 #![tactic(auto)]
+
 ghost use Rattle.std.specs.Prelude.{◌≡◌, true, length};
 ghost use Rattle.base.specs.Refusals.{first_refusal, number_or_zero};
 ghost use Rattle.model.specs.Calls.{transfer_start};

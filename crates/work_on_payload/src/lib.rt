@@ -1,5 +1,6 @@
 // Work: payload bytes are taken into the sum, and processing ends by a cancel or with no payload left.
 #![tactic(auto)]
+
 mod ending;
 mod payload_bytes;
 

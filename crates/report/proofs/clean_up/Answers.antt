@@ -1,0 +1,7 @@
+-- `report::clean_up` meets its contract: the parts that its calls give. Assumes nothing.
+use borrow.Author.Rules.{rules}
+use Rattle.report.proofs.ReportLaws.{give-cleaned}
+use Rattle.report.proofs.clean_up.Goals as goal
+
+pub returns : goal.returns
+returns c = search give-cleaned

@@ -4,7 +4,6 @@ use Prim.Native.Nat.{ℕ}
 use mathlib.Core.Path.{◌≡◌, ◌∙◌}
 use mathlib.Core.Option.{none}
 use Rattle.base.specs.Refusals.{first_refusal}
-use Rattle.model.specs.State as model
 use Rattle.model.specs.State.{Store}
 use Rattle.model.specs.Calls.{delete_transfer}
 use Rattle.model.specs.Step.{own_refusals, refusals, act, delete_refusals}

@@ -19,7 +19,7 @@ long c = search (rules, unmapped)
 
 here : (c : After-processing_place-i) → (InProcessing c.args.s c.args.store.now c.processing_place-i.result)
 here c =
-    in-processing c.args.s c.args.store.now 6 c.processing_place-i.result _ c.requires (long c.before.before.before.before.before) refl c.allowed.ensures c.if-not-allowed.false-raw c.processing_place-i.ensures
+    in-processing c.args.s c.args.store.now 6 c.processing_place-i.result _ c.requires (long c.before.before.before.before.before.before) refl c.allowed.ensures c.if-not-allowed.false-raw c.processing_place-i.ensures
 
 pub returns-then-not-allowed : goal.returns-then-not-allowed
 returns-then-not-allowed c = search ways

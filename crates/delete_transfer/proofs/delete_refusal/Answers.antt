@@ -1,5 +1,4 @@
 -- `delete_transfer::delete_refusal` meets its contract: the same tests in the same order. Assumes nothing.
-use borrow.Author.Rules.{rules}
 use Rattle.base.proofs.RefusalNumbers.{numbers}
 use Rattle.delete_transfer.proofs.delete_refusal.Goals as goal
 

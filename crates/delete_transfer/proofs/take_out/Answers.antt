@@ -1,5 +1,4 @@
 -- `delete_transfer::take_out` meets its contract: other transfers and another store. Assumes nothing.
-use borrow.Author.Rules.{rules}
 use Rattle.state.proofs.Ways.{ways}
 use Rattle.delete_transfer.proofs.take_out.Goals as goal
 

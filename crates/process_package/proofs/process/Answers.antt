@@ -1,5 +1,10 @@
 -- `process_package::process` meets its contract: refused by 1, or what the call of a sound state gives; its clauses follow from the exact
 -- one. Assumes nothing.
+use Rattle.process_package.specs.Process.{process_called}
+use Rattle.state.specs.Outcome.{outcome, SoundIfAccepted, Outcome, view_outcome}
+use Rattle.state.specs.View.{view_state}
+use Rattle.model.specs.Step.{step}
+use Rattle.model.specs.Calls.{process}
 use borrow.Author.Rules.{rules}
 use mathlib.Core.Path.{◌≡◌}
 use lib.ListN.{length}
@@ -14,23 +19,20 @@ use Rattle.process_package.proofs.process.Goals as goal
 long : (c : Start) → length c.args.s.transfers.packages ≡ packages_most
 long c = search (rules, unmapped)
 
-pub returns-then-not-sound-clause-meaning : goal.returns-then-not-sound-clause-meaning
-returns-then-not-sound-clause-meaning c = (clauses _ _ _ _ _ (search ways) (search (view-begun, (long (goal.at.returns-then-not-sound-clause-meaning c).Start)))).0
+-- the three clauses follow from the exact one
+three : (c : Start) (given : Outcome) → given ≡ process_called c.args.s c.args.store.now c.args.id
+    → (view_outcome given ≡ step (view_state c.args.s) c.args.store.now (process c.args.id)) × ((given ≡ process_called c.args.s c.args.store.now c.args.id) × SoundIfAccepted given)
+three c given exact = clauses _ _ _ _ _ exact (search (view-begun, long c))
 
-pub returns-then-not-sound-clause-exact : goal.returns-then-not-sound-clause-exact
-returns-then-not-sound-clause-exact c = (clauses _ _ _ _ _ (search ways) (search (view-begun, (long (goal.at.returns-then-not-sound-clause-exact c).Start)))).1
-
-pub returns-then-not-sound-clause-sound : goal.returns-then-not-sound-clause-sound
-returns-then-not-sound-clause-sound c = (clauses _ _ _ _ _ (search ways) (search (view-begun, (long (goal.at.returns-then-not-sound-clause-sound c).Start)))).2
+pub returns-then-not-sound : goal.returns-then-not-sound
+returns-then-not-sound c =
+    let told = three (goal.at.returns-then-not-sound c).Start (outcome c.refused.result c.args.store.now) (search ways) in
+    record { meaning = told.0; exact = told.1.0; sound = told.1.1 }
 
 pub process_on_sound-requires : goal.process_on_sound-requires
 process_on_sound-requires c = search told-yes
 
-pub returns-clause-meaning : goal.returns-clause-meaning
-returns-clause-meaning c = (clauses _ _ _ _ _ (search ways) (search (view-begun, (long (goal.at.returns-clause-meaning c).Start)))).0
-
-pub returns-clause-exact : goal.returns-clause-exact
-returns-clause-exact c = (clauses _ _ _ _ _ (search ways) (search (view-begun, (long (goal.at.returns-clause-exact c).Start)))).1
-
-pub returns-clause-sound : goal.returns-clause-sound
-returns-clause-sound c = (clauses _ _ _ _ _ (search ways) (search (view-begun, (long (goal.at.returns-clause-sound c).Start)))).2
+pub returns : goal.returns
+returns c =
+    let told = three (goal.at.returns c).Start (outcome c.process_on_sound.result c.args.store.now) (search ways) in
+    record { meaning = told.0; exact = told.1.0; sound = told.1.1 }

@@ -23,7 +23,7 @@ long c = search (rules, unmapped)
 
 found : (c : Else-number-ne0) → (FoundAt c.args.s c.args.store.now c.args.id c.named_package-named.result.place)
 found c =
-    found_at _ _ _ _ _ c.requires (long c.before.before.before.before.before.before) refl (c.named_package-named.ensures.place (search rules))
+    found_at _ _ _ _ _ c.requires (long c.before.before.before.before.before.before.before) refl (c.named_package-named.ensures.place (search rules))
 
 -- the phase is another than Processing
 free : (c : Else-is_processing) → is_processing (view_phase c.args.s.phase) ≡ false

@@ -1,5 +1,4 @@
 -- `report::clean_up` meets its contract: the parts that its calls give. Assumes nothing.
-use borrow.Author.Rules.{rules}
 use Rattle.report.proofs.ReportLaws.{give-cleaned}
 use Rattle.report.proofs.clean_up.Goals as goal
 

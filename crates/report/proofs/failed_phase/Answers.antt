@@ -1,5 +1,4 @@
 -- `report::failed_phase` meets its contract: a case for each origin. Assumes nothing.
-use borrow.Author.Rules.{rules}
 use Rattle.state.specs.declared.phase.CleanUpOrigin.TheVariants as clean_up
 use Rattle.report.proofs.ReportLaws.{give-failed}
 use Rattle.report.proofs.failed_phase.Goals as goal

@@ -1,5 +1,4 @@
 -- `report::report_cleaning_up` meets its contract: good or bad, the parts that its calls give. Assumes nothing.
-use borrow.Author.Rules.{rules}
 use Rattle.base.proofs.Ladder.{ladder}
 use Rattle.report.proofs.ReportLaws.{give-phase, give-answered}
 use Rattle.report.proofs.report_cleaning_up.Goals as goal

@@ -1,5 +1,4 @@
 -- `report::report_in` meets its contract: a case for each manager's state. Assumes nothing.
-use borrow.Author.Rules.{rules}
 use Rattle.soundness.proofs.SoundSession.{session-fits, session-sound}
 use Rattle.report.specs.Reported.{phase_reported}
 use Rattle.report.proofs.ReportLaws.{clean-up-fits, give-in, give-answered}

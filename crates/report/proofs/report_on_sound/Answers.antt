@@ -1,5 +1,4 @@
 -- `report::report_on_sound` meets its contract: the ways out of a call. Assumes nothing.
-use borrow.Author.Rules.{rules}
 use Rattle.base.specs.Refusals.{first_refusal}
 use Rattle.model.specs.Step.{own_refusals}
 use Rattle.state.proofs.Ways.{ways}

@@ -1,5 +1,4 @@
 -- `report::report_verifying` meets its contract: the same tests in the same order. Assumes nothing.
-use borrow.Author.Rules.{rules}
 use borrow.Author.Tests.{not-true, not-false}
 use Rattle.base.proofs.Ladder.{ladder}
 use Rattle.report.proofs.ReportLaws.{give-phase}

@@ -1,5 +1,4 @@
 -- `transfer_data::accept_block` meets its contract: the block behind the area's start and the bytes received. Assumes nothing.
-use borrow.Author.Rules.{rules}
 use Rattle.state.proofs.Ways.{ways}
 use Rattle.transfer_data.specs.Data.{block_received_at}
 use Rattle.transfer_data.proofs.DataLaws.{block_at}

@@ -1,5 +1,4 @@
 -- `transfer_data::data_refusal` meets its contract: the same tests in the same order. Assumes nothing.
-use borrow.Author.Rules.{rules}
 use Rattle.base.proofs.RefusalNumbers.{numbers}
 use Rattle.transfer_data.proofs.DataLaws.{incorrect-size}
 use Rattle.transfer_data.proofs.data_refusal.Goals as goal

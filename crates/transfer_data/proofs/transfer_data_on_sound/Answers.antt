@@ -18,8 +18,7 @@ long c = search (rules, unmapped)
 
 found : (c : Else-number-ne0) → (FoundAt c.args.s c.args.store.now c.args.id c.named_package-named.result.place)
 found c =
-    found_at _ _ _ _ _ c.requires (long c.before.before.before.before.before) refl (c.named_package-named.ensures.place (search rules))
-data-refusal-requires c κs = (found c.before).received
+    found_at _ _ _ _ _ c.requires (long c.before.before.before.before.before.before) refl (c.named_package-named.ensures.place (search rules))
 
 pub named_package-named-requires : goal.named_package-named-requires
 named_package-named-requires c = search count_fits
@@ -34,7 +33,8 @@ offset_bounds-t-i c = let h = found (goal.at.offset_bounds-t-i c).Else-number-ne
 pub bounds-t-i : goal.bounds-t-i
 bounds-t-i c = let h = found (goal.at.bounds-t-i c).Else-number-ne0 in omega arith
 
--- ?? data-refusal-requires : tie.Need-data-refusal-requires
+pub data_refusal-refusal-requires : goal.data_refusal-refusal-requires
+data_refusal-refusal-requires c = (found (goal.at.data_refusal-refusal-requires c).Else-number-ne0).received
 
 pub returns-then-refusal-ne0 : goal.returns-then-refusal-ne0
 returns-then-refusal-ne0 c = search (ways, pass-named, data-own, (found (goal.at.returns-then-refusal-ne0 c).Else-number-ne0))

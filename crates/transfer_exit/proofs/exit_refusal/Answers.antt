@@ -1,5 +1,4 @@
 -- `transfer_exit::exit_refusal` meets its contract: the same tests in the same order, the text read last. Assumes nothing.
-use borrow.Author.Rules.{rules}
 use Rattle.base.proofs.RefusalNumbers.{numbers}
 use Rattle.transfer_exit.proofs.ExitLaws.{exit_read}
 use Rattle.transfer_exit.proofs.exit_refusal.Goals as goal

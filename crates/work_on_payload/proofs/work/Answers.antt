@@ -1,12 +1,16 @@
 -- `work_on_payload::work` meets its contract: refused by 1, or what the call of a sound state gives; its clauses follow from the exact one.
 -- Assumes nothing.
+use Rattle.work_on_payload.specs.Work.{work_called}
+use Rattle.state.specs.Outcome.{outcome, SoundIfAccepted, Outcome, view_outcome}
+use Rattle.model.specs.Step.{step}
+use Rattle.model.specs.Calls.{work}
 use borrow.Author.Rules.{rules}
 use mathlib.Core.Path.{◌≡◌}
 use lib.ListN.{length}
 use Rattle.base.proofs.Counted.{unmapped}
 use Rattle.base.proofs.Ladder.{told-yes}
 use Rattle.model.specs.Sound.{packages_most}
-use Rattle.state.specs.View.{entries_most}
+use Rattle.state.specs.View.{entries_most, view_state}
 use Rattle.state.proofs.Ways.{ways, clauses}
 use Rattle.work_on_payload.proofs.ViewWorked.{view-worked}
 use Rattle.work_on_payload.proofs.work.Goals.{Start}
@@ -18,23 +22,20 @@ long c = search (rules, unmapped)
 long-list : (c : Start) → length c.args.s.session.entries ≡ entries_most
 long-list c = search (rules, unmapped)
 
-pub returns-then-not-sound-clause-meaning : goal.returns-then-not-sound-clause-meaning
-returns-then-not-sound-clause-meaning c = (clauses _ _ _ _ _ (search ways) (search (view-worked, (long (goal.at.returns-then-not-sound-clause-meaning c).Start), long-list))).0
+-- the three clauses follow from the exact one
+three : (c : Start) (given : Outcome) → given ≡ work_called c.args.s c.args.store.now c.args.n
+    → (view_outcome given ≡ step (view_state c.args.s) c.args.store.now (work c.args.n)) × ((given ≡ work_called c.args.s c.args.store.now c.args.n) × SoundIfAccepted given)
+three c given exact = clauses _ _ _ _ _ exact (search (view-worked, long c, long-list c))
 
-pub returns-then-not-sound-clause-exact : goal.returns-then-not-sound-clause-exact
-returns-then-not-sound-clause-exact c = (clauses _ _ _ _ _ (search ways) (search (view-worked, (long (goal.at.returns-then-not-sound-clause-exact c).Start), long-list))).1
-
-pub returns-then-not-sound-clause-sound : goal.returns-then-not-sound-clause-sound
-returns-then-not-sound-clause-sound c = (clauses _ _ _ _ _ (search ways) (search (view-worked, (long (goal.at.returns-then-not-sound-clause-sound c).Start), long-list))).2
+pub returns-then-not-sound : goal.returns-then-not-sound
+returns-then-not-sound c =
+    let told = three (goal.at.returns-then-not-sound c).Start (outcome c.refused.result c.args.store.now) (search ways) in
+    record { meaning = told.0; exact = told.1.0; sound = told.1.1 }
 
 pub work_on_sound-requires : goal.work_on_sound-requires
 work_on_sound-requires c = search told-yes
 
-pub returns-clause-meaning : goal.returns-clause-meaning
-returns-clause-meaning c = (clauses _ _ _ _ _ (search ways) (search (view-worked, (long (goal.at.returns-clause-meaning c).Start), long-list))).0
-
-pub returns-clause-exact : goal.returns-clause-exact
-returns-clause-exact c = (clauses _ _ _ _ _ (search ways) (search (view-worked, (long (goal.at.returns-clause-exact c).Start), long-list))).1
-
-pub returns-clause-sound : goal.returns-clause-sound
-returns-clause-sound c = (clauses _ _ _ _ _ (search ways) (search (view-worked, (long (goal.at.returns-clause-sound c).Start), long-list))).2
+pub returns : goal.returns
+returns c =
+    let told = three (goal.at.returns c).Start (outcome c.work_on_sound.result c.args.store.now) (search ways) in
+    record { meaning = told.0; exact = told.1.0; sound = told.1.1 }

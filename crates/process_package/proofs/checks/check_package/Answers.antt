@@ -12,11 +12,11 @@ use Rattle.model.specs.Areas.{declared}
 use Rattle.model.specs.Sound.{store_most}
 use Rattle.state.specs.View.{view_packages}
 use Rattle.process_package.proofs.CheckLaws.{area-part, numbers_fit, stopped-off, stopped-text, stopped-action, passed}
-use Rattle.process_package.proofs.checks.check_package.Goals.{After-answer_refusal-number, After-read_package-read}
+use Rattle.process_package.proofs.checks.check_package.Goals.{Start, After-answer_refusal-number, After-read_package-read}
 use Rattle.process_package.proofs.checks.check_package.Goals as goal
 
 -- the package's area
-abbrev area : tie.Start → List ℕ
+abbrev area : Start → List ℕ
 area c = take c.args.p.size (drop (declared (take c.args.i (view_packages c.args.t))) c.args.store.now)
 
 -- what was read of it, and the number of that answer

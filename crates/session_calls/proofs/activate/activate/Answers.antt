@@ -1,28 +1,31 @@
 -- `session_calls::activate::activate` meets its contract: refused by 1, or what the call of a sound state gives; its clauses follow from
 -- the exact one. Assumes nothing.
-use borrow.Author.Rules.{rules}
+use mathlib.Core.Path.{◌≡◌}
+use Rattle.session_calls.specs.Moved.{activate_called}
+use Rattle.state.specs.Outcome.{outcome, SoundIfAccepted, Outcome, view_outcome}
+use Rattle.state.specs.View.{view_state}
+use Rattle.model.specs.Step.{step}
+use Rattle.model.specs.Calls.{activate}
 use Rattle.base.proofs.Ladder.{told-yes}
 use Rattle.state.proofs.Ways.{ways, clauses}
 use Rattle.session_calls.proofs.MoveLaws.{view-activating}
+use Rattle.session_calls.proofs.activate.activate.Goals.{Start}
 use Rattle.session_calls.proofs.activate.activate.Goals as goal
 
-pub returns-then-not-sound-clause-meaning : goal.returns-then-not-sound-clause-meaning
-returns-then-not-sound-clause-meaning c = (clauses _ _ _ _ _ (search ways) λ h. search view-activating).0
+-- the three clauses follow from the exact one
+three : (c : Start) (given : Outcome) → given ≡ activate_called c.args.s c.args.store.now
+    → (view_outcome given ≡ step (view_state c.args.s) c.args.store.now activate) × ((given ≡ activate_called c.args.s c.args.store.now) × SoundIfAccepted given)
+three c given exact = clauses _ _ _ _ _ exact λ h. search view-activating
 
-pub returns-then-not-sound-clause-exact : goal.returns-then-not-sound-clause-exact
-returns-then-not-sound-clause-exact c = (clauses _ _ _ _ _ (search ways) λ h. search view-activating).1
-
-pub returns-then-not-sound-clause-sound : goal.returns-then-not-sound-clause-sound
-returns-then-not-sound-clause-sound c = (clauses _ _ _ _ _ (search ways) λ h. search view-activating).2
+pub returns-then-not-sound : goal.returns-then-not-sound
+returns-then-not-sound c =
+    let told = three (goal.at.returns-then-not-sound c).Start (outcome c.refused.result c.args.store.now) (search ways) in
+    record { meaning = told.0; exact = told.1.0; sound = told.1.1 }
 
 pub activate_on_sound-requires : goal.activate_on_sound-requires
 activate_on_sound-requires c = search told-yes
 
-pub returns-clause-meaning : goal.returns-clause-meaning
-returns-clause-meaning c = (clauses _ _ _ _ _ (search ways) λ h. search view-activating).0
-
-pub returns-clause-exact : goal.returns-clause-exact
-returns-clause-exact c = (clauses _ _ _ _ _ (search ways) λ h. search view-activating).1
-
-pub returns-clause-sound : goal.returns-clause-sound
-returns-clause-sound c = (clauses _ _ _ _ _ (search ways) λ h. search view-activating).2
+pub returns : goal.returns
+returns c =
+    let told = three (goal.at.returns c).Start (outcome c.activate_on_sound.result c.args.store.now) (search ways) in
+    record { meaning = told.0; exact = told.1.0; sound = told.1.1 }

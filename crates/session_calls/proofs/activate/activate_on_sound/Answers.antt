@@ -1,5 +1,4 @@
 -- `session_calls::activate::activate_on_sound` meets its contract: a call that moves the manager's state alone. Assumes nothing.
-use borrow.Author.Rules.{rules}
 use mathlib.Core.Path.{refl}
 use Rattle.model.specs.Calls.{activate}
 use Rattle.model.specs.Step.{own_refusals}

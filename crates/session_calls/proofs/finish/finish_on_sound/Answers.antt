@@ -1,6 +1,5 @@
 -- `session_calls::finish::finish_on_sound` meets its contract: a call that moves the manager's state alone, from where it came.
 -- Assumes nothing.
-use borrow.Author.Rules.{rules}
 use mathlib.Core.Path.{refl, ap}
 use Rattle.model.specs.Calls.{finish}
 use Rattle.model.specs.Step.{own_refusals}

@@ -1,5 +1,4 @@
 -- `session_calls::finish::finish_origin` meets its contract: the same test. Assumes nothing.
-use borrow.Author.Rules.{rules}
 use Rattle.base.proofs.Ladder.{ladder}
 use Rattle.session_calls.proofs.MoveLaws.{told-equal, told-unequal}
 use Rattle.session_calls.specs.Moved.{finish_origin}

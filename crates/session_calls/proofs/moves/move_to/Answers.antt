@@ -1,5 +1,4 @@
 -- `session_calls::moves::move_to` meets its contract: the two ways out. Assumes nothing.
-use borrow.Author.Rules.{rules}
 use Rattle.session_calls.proofs.MoveLaws.{move-refused, move-accepted}
 use Rattle.session_calls.proofs.moves.move_to.Goals as goal
 

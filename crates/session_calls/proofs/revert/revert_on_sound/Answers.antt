@@ -1,5 +1,4 @@
 -- `session_calls::revert::revert_on_sound` meets its contract: a call that moves the manager's state alone. Assumes nothing.
-use borrow.Author.Rules.{rules}
 use mathlib.Core.Path.{refl}
 use Rattle.model.specs.Calls.{revert}
 use Rattle.model.specs.Step.{own_refusals}

@@ -1,5 +1,4 @@
 -- `work_on_payload::ending::compare_sum` meets its contract: the two ways out of the comparison. Assumes nothing.
-use borrow.Author.Rules.{rules}
 use Rattle.work_on_payload.proofs.EndingLaws.{sum-differs, sum_same}
 use Rattle.work_on_payload.proofs.ending.compare_sum.Goals as goal
 

@@ -1,5 +1,4 @@
 -- `work_on_payload::ending::end_processing` meets its contract: the parts that its calls give. Assumes nothing.
-use borrow.Author.Rules.{rules}
 use Rattle.work_on_payload.proofs.EndingLaws.{give_ended}
 use Rattle.work_on_payload.proofs.ending.end_processing.Goals as goal
 

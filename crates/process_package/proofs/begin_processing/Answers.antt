@@ -1,5 +1,4 @@
 -- `process_package::begin_processing` meets its contract: the parts that its calls give. Assumes nothing.
-use borrow.Author.Rules.{rules}
 use Rattle.process_package.proofs.ProcessLaws.{give-begun}
 use Rattle.process_package.proofs.begin_processing.Goals as goal
 

@@ -1,5 +1,4 @@
 -- `process_package::checks::check_package` meets its contract: the same tests in the same order, the text read once. Assumes nothing.
-use borrow.Author.Rules.{rules}
 use native.Mathlib.Omega.{arith}
 use mathlib.Core.Path.{◌≡◌, ap, ◌∙◌}
 use mathlib.Core.List.{List}
@@ -20,12 +19,12 @@ abbrev area : Start → List ℕ
 area c = take c.args.p.size (drop (declared (take c.args.i (view_packages c.args.t))) c.args.store.now)
 
 -- what was read of it, and the number of that answer
-read_told : (c : After-read_package-read) → (c.read_package-read.result ≡ package_read (read_package (area c.before.before.before.before.before.before.before)))
+read_told : (c : After-read_package-read) → (c.read_package-read.result ≡ package_read (read_package (area c.before.before.before.before.before.before.before.before)))
 read_told c =
     c.read_package-read.ensures.exact
     ∙ ap (λ (l : List ℕ). package_read (read_package l)) (area-part _ _ _ _ c.area_start-start.ensures)
 
-number-told : (c : After-answer_refusal-number) → (c.answer_refusal-number.result ≡ refusal_number (read_package (area c.before.before.before.before.before.before.before.before)))
+number-told : (c : After-answer_refusal-number) → (c.answer_refusal-number.result ≡ refusal_number (read_package (area c.before.before.before.before.before.before.before.before.before)))
 number-told c =
     c.answer_refusal-number.ensures
     ∙ c.read_package-read.ensures.meaning

@@ -1,5 +1,4 @@
 -- `process_package::checks::is_touched` meets its contract: the column of part numbers is searched. Assumes nothing.
-use borrow.Author.Rules.{rules}
 use Rattle.process_package.proofs.SessionRefusal.{touched-among}
 use Rattle.process_package.proofs.checks.is_touched.Goals as goal
 

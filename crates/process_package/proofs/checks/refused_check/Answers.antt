@@ -1,5 +1,4 @@
 -- `process_package::checks::refused_check` meets its contract: a number beside cleared values. Assumes nothing.
-use borrow.Author.Rules.{rules}
 use Rattle.process_package.proofs.checks.refused_check.Goals as goal
 
 pub returns : goal.returns

@@ -1,5 +1,4 @@
 -- `process_package::checks::work_of_package` meets its contract: the values that were read, and the sums at their start. Assumes nothing.
-use borrow.Author.Rules.{rules}
 use Rattle.process_package.proofs.checks.work_of_package.Goals as goal
 
 pub returns : goal.returns

@@ -1,5 +1,6 @@
 // ChangeInfo: "ChangeInfo the session's list in order as names `cluster`, `change` with Added, Updated or Removed".
 #![tactic(auto)]
+
 mod length;
 mod write;
 

@@ -1,5 +1,6 @@
 // ClusterInfo: "ClusterInfo writes the running table as text".
 #![tactic(auto)]
+
 ghost use Rattle.std.specs.Prelude.{◌≡◌, true, length};
 ghost use Rattle.clusters.specs.Table.{table_within};
 ghost use Rattle.clusters.specs.View.{view_table};

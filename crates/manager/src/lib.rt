@@ -1,5 +1,6 @@
 // One entry for the twelve changing calls.
 #![tactic(auto)]
+
 ghost use Rattle.std.specs.Prelude.{◌≡◌, true, length};
 ghost use Rattle.model.specs.Sound.{sound_for};
 ghost use Rattle.request.specs.Call.{call_of};

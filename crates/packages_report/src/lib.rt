@@ -1,5 +1,6 @@
 // Packages: "Packages fills a lent list of records (id, size, received, state) in id order."
 #![tactic(auto)]
+
 mod by_value;
 mod records;
 

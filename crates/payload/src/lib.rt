@@ -1,6 +1,7 @@
 // Payload: "Payload(id) returns the payload's part of the store itself, empty when refused; a call beside it with the same checks gives the
 // refusal number, or 0." The latter is `payload_check`.
 #![tactic(auto)]
+
 mod place;
 
 ghost use Rattle.std.specs.Prelude.{◌≡◌, true, length};

@@ -1,5 +1,6 @@
 // Progress: "Progress is floor(100 × done / payload), 100 for payload 0, and 0 outside Processing."
 #![tactic(auto)]
+
 ghost use Rattle.std.specs.Prelude.{◌≡◌, true, ◌*◌, ◌/◌, ◌≤◌, length};
 ghost use Rattle.std.proofs.Math.Option.{some};
 ghost use Rattle.model.specs.Sound.{sound_for};

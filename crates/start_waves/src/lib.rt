@@ -1,5 +1,6 @@
 // The start waves, a reading call: "Give the start waves for the running table."
 #![tactic(auto)]
+
 ghost use Rattle.std.specs.Prelude.{◌≡◌, true, ◌*◌, ◌≤◌, length};
 ghost use Rattle.std.proofs.lemmas.List.Edits.{sets};
 ghost use Rattle.clusters.specs.Table.{table_within};

@@ -1,0 +1,10 @@
+-- `change_info::report_changes` meets its contract: too short, with the length needed, or written. Assumes nothing.
+use borrow.Author.Rules.{rules}
+use Rattle.reading_reply.proofs.ReportLaws.{reports}
+use Rattle.change_info.proofs.report_changes.Goals as goal
+
+pub returns-then-buffer-needed : goal.returns-then-buffer-needed
+returns-then-buffer-needed c = search reports
+
+pub returns : goal.returns
+returns c = search reports

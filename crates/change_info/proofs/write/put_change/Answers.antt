@@ -1,0 +1,27 @@
+-- `change_info::write::put_change` meets its contract: each part put behind the one before, with its room. Assumes nothing.
+use native.Mathlib.Omega.{arith}
+use Rattle.text.proofs.PutLaws.{put-length}
+use Rattle.text.proofs.PutPair.{room-first-part, room-between, room-second-part, room-behind, pair_put}
+use Rattle.change_info.proofs.LineParts.{line-pair}
+use Rattle.change_info.proofs.write.put_change.Goals as goal
+
+pub put_number-behind_part-requires : goal.put_number-behind_part-requires
+put_number-behind_part-requires c = search (room-first-part (line-pair c.args.a))
+
+pub bounds-buffer-behind_part : goal.bounds-buffer-behind_part
+bounds-buffer-behind_part c = search (room-between (line-pair c.args.a))
+
+pub overflow_add-behind_part : goal.overflow_add-behind_part
+overflow_add-behind_part c = omega (arith, slice-write-buffer (goal.at.overflow_add-behind_part c).After-slice_known-2-1)
+
+pub put_word-behind_word-requires : goal.put_word-behind_word-requires
+put_word-behind_word-requires c = search (room-second-part (line-pair c.args.a))
+
+pub bounds-buffer-behind_word : goal.bounds-buffer-behind_word
+bounds-buffer-behind_word c = search (room-behind (line-pair c.args.a))
+
+pub returns : goal.returns
+returns c = search (pair_put (line-pair c.args.a))
+
+pub overflow_add-result : goal.overflow_add-result
+overflow_add-result c = omega (arith, (returns (goal.at.overflow_add-result c).After-slice_known-3-1).behind)

@@ -16,6 +16,7 @@ use Rattle.clusters.specs.declared.table.Table.{Table}
 use Rattle.clusters.specs.Table.{needs_met, clusters_most}
 use Rattle.clusters.specs.View.{view_table}
 use Rattle.actions.proofs.Arrays.{length-put}
+use Rattle.actions.specs.Exact.{apply}
 use Rattle.actions.proofs.Views.{length-apply}
 use Rattle.model.specs.State.{Store}
 use Rattle.model.specs.Calls.{Call, transfer_start, transfer_data, transfer_exit, delete_transfer, process, work, cancel, revert, activate, rollback, finish, report}
@@ -75,7 +76,7 @@ remaining-room deletion t long =
 staged-room : (table : Table) (entries : List Entry) → length table.clusters ≡ clusters_most → length (staged_from table entries).clusters ≡ clusters_most
 unfolding staged_from
 staged-room table [] long = long
-staged-room table (e ∷ entries) long = staged-room _ entries (length-apply table long e.action)
+staged-room table (e ∷ entries) long = staged-room (apply e.action table) entries (length-apply table long e.action)
 
 running-room : (phase : Phase) (session : Session) → length session.beginning.clusters ≡ clusters_most
     → length (running_table phase session).clusters ≡ clusters_most

@@ -1,6 +1,5 @@
 -- `manager::call_on_sound` meets its contract: in each arm the case of the request is known, and the call of that case gives what it says.
 -- Assumes nothing.
-use borrow.Author.Rules.{rules}
 use Rattle.manager.specs.Accepts.{accepts}
 use Rattle.manager.proofs.CallLaws.{by-request}
 use Rattle.manager.proofs.call_on_sound.Goals as goal

@@ -86,7 +86,7 @@ module _ (s : State) (store : Store) (call : OldCall) where
   accepts-done : (accepts s store (twelve_of call)).answered.answer ≡ Done
   unfolding accepts
   accepts-done =
-      elim call [ Activate ↦ refl | Cancel id ↦ refl | Revert ↦ refl | Rollback ↦ refl ]
+      elim call as (λ k. (accepts s store (twelve_of k)).answered.answer ≡ Done) [ Activate ↦ refl | Cancel id ↦ refl | Revert ↦ refl | Rollback ↦ refl ]
 
   module _ (ok : sound (view_state s) store ≡ true) (made : Answered)
       (is : outcome made store ≡ called_on_sound s store (twelve_of call) (accepts s store (twelve_of call))) where
@@ -157,7 +157,8 @@ module _ (s : State) (store : Store) (call : OldCall) where
   view-twelve : view_outcome (exact_step s store (twelve_of call)) ≡ step (view_state s) store (twelve_of call)
   unfolding accepts
   view-twelve = view-called s store (twelve_of call) (accepts s store (twelve_of call))
-      (elim call [
+      (elim call as (λ k. first_refusal (steps.refusals (view_state s) store (twelve_of k)) ≡ none
+      → view_outcome (accepts s store (twelve_of k)) ≡ steps.act (view_state s) store (twelve_of k)) [
         | Activate ↦ λ h. view-activating s store
         | Cancel id ↦ λ h. view-noted s store id h
         | Revert ↦ λ h. view-reverting s store

@@ -1,5 +1,6 @@
 // The old four-state calls: the interface of source document 002 as a layer above the twelve calls.
 #![tactic(auto)]
+
 pub mod activate;
 pub mod answer;
 pub mod call;

@@ -1,5 +1,6 @@
 // Lists of calls, the twelve and the old four, each handed the state and store that the one before left.
 #![tactic(auto)]
+
 pub mod loaded;
 
 ghost use Rattle.std.specs.Prelude.{◌≡◌, true, [], ◌∷◌, ◌+◌, ◌/◌, ◌≤◌, length};

@@ -1,0 +1,62 @@
+-- `call_list::make_all` meets its contract. The loop's invariant is `MadeSoFar`: the calls of the words before i were made, their answers
+-- stand before `at`, what is left of the words is a list of calls, and the state is sound for the store exactly if it was before the first
+-- call, which was checked. The measure is the number of words left. Assumes nothing.
+use Prim.Native.Nat.{◌+◌, ◌-◌, ◌^◌, ◌≤◌, ◌<◌}
+use borrow.Author.Rules.{rules}
+use native.Mathlib.Omega.{arith}
+use lib.ListN.{length}
+use Rattle.call_list.proofs.ListLaws.{MadeSoFar, none_so_far, sound-still, row-left, room-left, one_more, all_made}
+use Rattle.call_list.proofs.make_all.Goals.{In-loop-i}
+use Rattle.call_list.proofs.make_all.Goals as goal
+
+-- at the head of a turn: a whole row is left, and room for its answer
+row_here : (c : In-loop-i) → (c.loop-i.i + 6 ≤ length c.args.words.now)
+row_here c =
+    let l = c.loop-i in
+    row-left _ _ _ _ _ l.state l.store l.answers l.i l.at l.invariant c.loop-i-test.true
+
+room-here : (c : In-loop-i) → c.loop-i.at + 2 ≤ length c.loop-i.answers
+room-here c =
+    let l = c.loop-i in
+    room-left _ _ _ _ _ l.state l.store l.answers l.i l.at l.invariant c.loop-i-test.true c.requires.words_in_bounds
+
+-- the next places fit. It is said here, because behind the call `omega` does not look so far back
+places-fit : (c : In-loop-i) → (c.loop-i.i + 6 < 2 ^ 64) × (c.loop-i.at + 2 < 2 ^ 64)
+places-fit c =
+    let h = row_here c in
+    let k = room-here c in
+    let e = c.loop-i.invariant.answers-long in
+    (omega arith, omega arith)
+
+pub loop-i-init : goal.loop-i-init
+loop-i-init c = none_so_far _ _ _ _ _ c.requires.bytes_value
+
+pub row_at-requires : goal.row_at-requires
+row_at-requires c = row_here (goal.at.row_at-requires c).In-loop-i
+
+pub make_call-r-requires : goal.make_call-r-requires
+make_call-r-requires c =
+    let l = c.loop-i in
+    sound-still _ _ _ _ _ l.state l.store l.answers l.i l.at l.invariant _ c.sound-is_sound.ensures
+
+pub put_answer-requires : goal.put_answer-requires
+put_answer-requires c = room-here (goal.at.put_answer-requires c).In-loop-i
+
+pub overflow_add-i : goal.overflow_add-i
+overflow_add-i c = omega (arith, places-fit (goal.at.overflow_add-i c).In-loop-i)
+
+pub overflow_add-at : goal.overflow_add-at
+overflow_add-at c = omega (arith, places-fit (goal.at.overflow_add-at c).In-loop-i)
+
+pub loop-i-smaller : goal.loop-i-smaller
+loop-i-smaller c = omega (arith, row_here (goal.at.loop-i-smaller c).In-loop-i)
+
+pub loop-i-preserved : goal.loop-i-preserved
+loop-i-preserved c =
+    let l = c.loop-i in
+    one_more _ _ _ _ _ l.state l.store l.answers l.i l.at l.invariant c.loop-i-test.true c.requires.words_in_bounds _ c.row_at.ensures c.make_call-r.result _ c.make_call-r.auto.1.1.0 c.make_call-r.ensures _ c.put_answer.ensures
+
+pub returns : goal.returns
+returns c =
+    let l = c.loop-i in
+    all_made _ _ _ _ _ l.state l.store l.answers l.i l.at l.invariant c.loop-i-test.false

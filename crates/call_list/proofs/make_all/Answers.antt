@@ -1,11 +1,10 @@
 -- `call_list::make_all` meets its contract. The loop's invariant is `MadeSoFar`: the calls of the words before i were made, their answers
 -- stand before `at`, what is left of the words is a list of calls, and the state is sound for the store exactly if it was before the first
 -- call, which was checked. The measure is the number of words left. Assumes nothing.
-use Prim.Native.Nat.{◌+◌, ◌-◌, ◌^◌, ◌≤◌, ◌<◌}
-use borrow.Author.Rules.{rules}
+use Prim.Native.Nat.{◌+◌, ◌^◌, ◌≤◌, ◌<◌}
 use native.Mathlib.Omega.{arith}
 use lib.ListN.{length}
-use Rattle.call_list.proofs.ListLaws.{MadeSoFar, none_so_far, sound-still, row-left, room-left, one_more, all_made}
+use Rattle.call_list.proofs.ListLaws.{none_so_far, sound-still, row-left, room-left, one_more, all_made}
 use Rattle.call_list.proofs.make_all.Goals.{In-loop-i}
 use Rattle.call_list.proofs.make_all.Goals as goal
 
@@ -54,7 +53,7 @@ loop-i-smaller c = omega (arith, row_here (goal.at.loop-i-smaller c).In-loop-i)
 pub loop-i-preserved : goal.loop-i-preserved
 loop-i-preserved c =
     let l = c.loop-i in
-    one_more _ _ _ _ _ l.state l.store l.answers l.i l.at l.invariant c.loop-i-test.true c.requires.words_in_bounds _ c.row_at.ensures c.make_call-r.result _ c.make_call-r.auto.1.1.0 c.make_call-r.ensures _ c.put_answer.ensures
+    one_more _ _ _ _ _ l.state l.store l.answers l.i l.at l.invariant c.loop-i-test.true c.requires.words_in_bounds _ c.row_at.ensures c.make_call-r.result _ c.make_call-r.auto.store c.make_call-r.ensures _ c.put_answer.ensures
 
 pub returns : goal.returns
 returns c =

@@ -1,11 +1,9 @@
 -- `call_list::make_all` meets its contract. The loop's invariant is `MadeSoFar`: the calls of the words before i were made, their answers
 -- stand before `at`, what is left of the words is a list of calls, and the state is sound for the store exactly if it was before the first
 -- call, which was checked. The measure is the number of words left. Assumes nothing.
-use Prim.Native.Nat.{◌+◌, ◌-◌, ◌^◌, ◌≤◌, ◌<◌}
-use borrow.Author.Rules.{rules}
-use native.Mathlib.Omega.{arith}
+use Prim.Native.Nat.{◌-◌}
 use lib.ListN.{length}
-use Rattle.call_list.proofs.ListLaws.{MadeSoFar, none_so_far, sound-still, row-left, room-left, one_more, all_made}
+use Rattle.call_list.proofs.ListLaws.{MadeSoFar}
 use Rattle.call_list.proofs.make_all.Given as goal
 
 abbrev pub invariant-loop-i : goal.invariant-loop-i

@@ -1,6 +1,5 @@
 -- `call_list::make_call` meets its contract: a malformed row is no call, and of any other the call of its request, of the twelve with its
 -- block or of the old four, is made. Assumes nothing.
-use borrow.Author.Rules.{rules}
 use Rattle.call_rows.proofs.RowLaws.{block_within}
 use Rattle.call_list.proofs.RowCall.{no_row, twelve-row, old_row}
 use Rattle.call_list.proofs.make_call.Goals as goal

@@ -1,5 +1,4 @@
 -- `call_list::put_answer` meets its contract: the two words, one behind the other. Assumes nothing.
-use borrow.Author.Rules.{rules}
 use native.Mathlib.Omega.{arith}
 use native.Mathlib.Numerals.{add-one}
 use lib.ListN.{length-set}

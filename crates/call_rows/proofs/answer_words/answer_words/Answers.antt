@@ -1,5 +1,4 @@
 -- `call_rows::answer_words::answer_words` meets its contract: in each arm the case of the answer is known. Assumes nothing.
-use borrow.Author.Rules.{rules}
 use Rattle.call_rows.proofs.AnswerLaws.{words_of}
 use Rattle.call_rows.proofs.answer_words.answer_words.Goals as goal
 

@@ -1,5 +1,4 @@
 -- `call_rows::row::old_request` meets its contract: by the number of the call. Assumes nothing.
-use borrow.Author.Rules.{rules}
 use Rattle.call_rows.specs.Row.{requests_by_number}
 use Rattle.call_rows.proofs.RowLaws.{with_number, without-number, no-such-call, past-fifteen}
 use Rattle.call_rows.proofs.row.old_request.Goals as goal

@@ -1,5 +1,4 @@
 -- `call_rows::row::request_of` meets its contract: the reserved word first, then by the number of the call. Assumes nothing.
-use borrow.Author.Rules.{rules}
 use Rattle.call_rows.specs.Row.{requests_by_number}
 use Rattle.call_rows.proofs.RowLaws.{reserved-used, reserved-free, by_number, with_number, without-number, with-report, past-five, past-eleven}
 use Rattle.call_rows.proofs.row.request_of.Goals as goal

@@ -1,5 +1,4 @@
 -- `call_rows::row::row_request` meets its contract: the end of the block is tested first. Assumes nothing.
-use borrow.Author.Rules.{rules}
 use Rattle.base.proofs.Ladder.{ladder}
 use Rattle.call_rows.specs.Row.{request_within}
 use Rattle.call_rows.proofs.row.row_request.Goals as goal

@@ -1,11 +1,9 @@
 -- `call_rows::row_list::rows_well_formed` meets its contract. The loop's invariant: the whole list is given exactly if the words from i on
 -- are. The measure is the number of words left. Assumes nothing.
 use Prim.Native.Nat.{◌-◌, ◌≤◌}
-use mathlib.Core.Path.{◌≡◌, refl}
-use borrow.Author.Rules.{rules}
+use mathlib.Core.Path.{◌≡◌}
 use lib.ListN.{length, drop}
 use Rattle.call_rows.specs.Rows.{decoded, is_given}
-use Rattle.call_rows.proofs.RowListLaws.{check-left-over, check-end, check-stops, check-goes-on}
 use Rattle.call_rows.proofs.row_list.rows_well_formed.Given as goal
 
 abbrev pub invariant-loop-i : goal.invariant-loop-i

@@ -1,4 +1,4 @@
--- What the walk of `fill` needs of lists and numbers: the list with its first records written, one more and one more. Assumes nothing.
+-- What the proof of `fill` needs of lists and numbers: the list with its first records written, one more and one more. Assumes nothing.
 use Prim.Native.Nat.{ℕ, zero, suc, ◌+◌, ◌≤◌, ◌<◌}
 use mathlib.Core.Path.{◌≡◌, refl, ap}
 use mathlib.Core.List.{List, [], ◌∷◌}
@@ -23,13 +23,6 @@ next (suc i) (r ∷ rs) (x ∷ l) a b = ap (λ (z : List Record). r ∷ z) (next
 pub copied_next : (i : ℕ) (rs l : List Record) → i < packages_most → length rs ≡ packages_most → i < length l
     → set (first_from i rs l) i (record_at rs i) ≡ first_from (i + 1) rs l
 copied_next i rs l small all more = rw (lt-ltb i packages_most small, add-one) (next i rs l (omega arith) more)
-
--- the list keeps its length
-pub copied-length : (i : ℕ) (rs l : List Record) → i ≤ length rs → i ≤ length l → length (first_from i rs l) ≡ length l
-copied-length zero rs l a b = refl
-copied-length (suc i) [] l a b = absurd (omega arith)
-copied-length (suc i) (r ∷ rs) [] a b = absurd (omega arith)
-copied-length (suc i) (r ∷ rs) (x ∷ l) a b = ap suc (copied-length i rs l (omega arith) (omega arith))
 
 -- no more are copied than there are, and than fit
 pub copied-bounds : (count room : ℕ) → (copied_of count room ≤ packages_most) × (copied_of count room ≤ room)

@@ -1,4 +1,3 @@
 pub mod Copied
-pub mod PackagesArray
 pub mod Recorded
 pub mod Reported

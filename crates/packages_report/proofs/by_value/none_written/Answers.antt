@@ -1,5 +1,4 @@
 -- `packages_report::by_value::none_written` meets its contract. Assumes nothing.
-use borrow.Author.Rules.{rules}
 use Rattle.packages_report.proofs.by_value.none_written.Goals as goal
 
 pub returns : goal.returns

@@ -1,5 +1,4 @@
 -- `packages_report::by_value::record_at` meets its contract: the test says which case holds. Assumes nothing.
-use borrow.Author.Rules.{rules}
 use borrow.Author.Tests.{lt-ltb, le-ltb}
 use Rattle.packages_report.proofs.by_value.record_at.Goals as goal
 

@@ -1,5 +1,4 @@
 -- `packages_report::records::record_of` meets its contract. Assumes nothing.
-use borrow.Author.Rules.{rules}
 use Rattle.packages_report.proofs.records.record_of.Goals as goal
 
 pub returns : goal.returns

@@ -3,22 +3,18 @@
 use borrow.Author.Rules.{rules}
 use native.Mathlib.Omega.{arith}
 use mathlib.Core.Path.{◌≡◌}
-use Prim.Native.Nat.{◌-◌, ◌≤◌}
 use lib.ListN.{length}
 use Rattle.base.proofs.Counted.{unmapped}
 use Rattle.model.specs.Sound.{packages_most}
-use Rattle.packages_report.proofs.Recorded.{first_records, one_more, records-done}
+use Rattle.packages_report.proofs.Recorded.{one_more, records-done}
 use Rattle.packages_report.proofs.records.records_of.Goals.{Start}
 use Rattle.packages_report.proofs.records.records_of.Goals as goal
 
 long : (c : Start) → length c.args.t.packages ≡ packages_most
 long c = search (rules, unmapped)
-record-of-requires c κs = search rules
 
 pub loop-i-init : goal.loop-i-init
 loop-i-init c = (omega arith, rw c.cleared_record-cleared.ensures)
-
--- ?? record-of-requires : tie.Need-record-of-requires invariant-loop decreases-loop
 
 pub loop-i-preserved : goal.loop-i-preserved
 loop-i-preserved c =

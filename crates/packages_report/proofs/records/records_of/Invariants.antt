@@ -1,13 +1,8 @@
 -- `packages_report::records::records_of` meets its contract. The loop's invariant: the first i records are those of the first i packages, and every
 -- other place is cleared. The measure is what is left of the packages. Assumes nothing.
-use borrow.Author.Rules.{rules}
-use native.Mathlib.Omega.{arith}
 use mathlib.Core.Path.{◌≡◌}
 use Prim.Native.Nat.{◌-◌, ◌≤◌}
-use lib.ListN.{length}
-use Rattle.base.proofs.Counted.{unmapped}
-use Rattle.model.specs.Sound.{packages_most}
-use Rattle.packages_report.proofs.Recorded.{first_records, one_more, records-done}
+use Rattle.packages_report.proofs.Recorded.{first_records}
 use Rattle.packages_report.proofs.records.records_of.Given as goal
 
 abbrev pub invariant-loop-i : goal.invariant-loop-i

@@ -4,16 +4,15 @@ use mathlib.Core.Path.{◌≡◌, refl, sym, ap, ◌∙◌}
 use mathlib.Core.List.{List}
 use native.Mathlib.Omega.{arith}
 use lib.ListN.{take, drop}
-use base.Fml.{GName}
-use denote.Ref.{Bor, MutBor}
+use denote.Ref.{Bor}
 use Rattle.payload.specs.declared.place.PayloadPlace.{PayloadPlace}
 use Rattle.payload.specs.Part.{PartOf, PartAt}
 
 -- the slice from a place's start up to its end, as the borrow checker has it: given is where the code found the place
-pub part_at : (whole : MutBor (List ℕ)) (given place : PayloadPlace) (name : GName) → given ≡ place
+pub part_at : (whole : Bor (List ℕ)) (given place : PayloadPlace) → given ≡ place
     → (let start = given.start in let end = start + given.count in
-    PartAt whole place (record { ref_ptr = (whole.ref_ptr.0, start + whole.ref_ptr.1); ghost_name = name; now = take (end - start) (drop start whole.now) }))
-part_at whole given place name e =
+    PartAt whole place (record { ref_ptr = (whole.ref_ptr.0, start + whole.ref_ptr.1); now = take (end - start) (drop start whole.now) }))
+part_at whole given place e =
     let start = given.start in
     let long : start + given.count - start ≡ given.count = omega arith in
     rw (← e)

@@ -1,5 +1,5 @@
 -- Where the payload lies, by what the checks show: what the text of the area says, and the place that each way out gives. Assumes nothing.
-use Prim.Native.Nat.{ℕ, ◌+◌, ◌-◌, ◌≤◌}
+use Prim.Native.Nat.{ℕ, ◌+◌, ◌≤◌}
 use mathlib.Core.Path.{◌≡◌, refl, sym, ap, ◌∙◌}
 use mathlib.Core.Bool.{true, false}
 use mathlib.Core.List.{List}
@@ -8,7 +8,6 @@ use native.Mathlib.Omega.{arith}
 use lib.ListN.{length, take, length-take}
 use Rattle.base.specs.Refusals.{first_refusal, number_or_zero}
 use Rattle.base.proofs.RefusalNumbers.{zero-none}
-use Rattle.manifest.specs.declared.package.PackageAnswer.TheVariants as answer
 use Rattle.manifest.specs.declared.package.PackageRead.{PackageRead as PackageReadStruct}
 use Rattle.manifest.specs.Package.{PackageRead, ill_formed, inconsistent, consistent, read_package}
 use Rattle.manifest.specs.Refused.{package_refusals}

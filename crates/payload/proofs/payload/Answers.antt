@@ -1,24 +1,23 @@
 -- `payload::payload` meets its contract: the empty part at the store's start of an unsound state, and of a sound one the part at the
 -- place that the checks after refusal 1 give. Assumes nothing.
-use borrow.Author.Rules.{rules}
 use mathlib.Core.Path.{refl, sym}
-use Rattle.base.proofs.Ladder.{told-no, told-yes}
+use Rattle.base.proofs.Ladder.{told}
 use Rattle.payload.specs.Place.{no_place}
 use Rattle.payload.proofs.Parts.{part_at}
 use Rattle.payload.proofs.PayloadLaws.{sound-place, unsound-place, promised}
 use Rattle.payload.proofs.payload.Goals as goal
 
 pub returns-then-not-sound-clause-meaning : goal.returns-then-not-sound-clause-meaning
-returns-then-not-sound-clause-meaning c = (promised _ _ _ _ (no_place 1) (sym (unsound-place _ _ _ (told-no _ _ c.sound.ensures c.if-not-sound.true-raw))) (part_at _ (no_place 1) (no_place 1) _ refl)).0
+returns-then-not-sound-clause-meaning c = (promised _ c.args.store _ _ (no_place 1) (sym (unsound-place _ _ _ (told _ _ _ c.sound.ensures c.if-not-sound.true))) (part_at _ (no_place 1) (no_place 1) refl)).0
 
 pub returns-then-not-sound-clause-part : goal.returns-then-not-sound-clause-part
-returns-then-not-sound-clause-part c = (promised _ _ _ _ (no_place 1) (sym (unsound-place _ _ _ (told-no _ _ c.sound.ensures c.if-not-sound.true-raw))) (part_at _ (no_place 1) (no_place 1) _ refl)).1
+returns-then-not-sound-clause-part c = (promised _ c.args.store _ _ (no_place 1) (sym (unsound-place _ _ _ (told _ _ _ c.sound.ensures c.if-not-sound.true))) (part_at _ (no_place 1) (no_place 1) refl)).1
 
 pub payload_on_sound-requires : goal.payload_on_sound-requires
-payload_on_sound-requires c = told-yes _ _ c.sound.ensures c.if-not-sound.false-raw
+payload_on_sound-requires c = told _ _ _ c.sound.ensures c.if-not-sound.false
 
 pub returns-clause-meaning : goal.returns-clause-meaning
-returns-clause-meaning c = (promised _ _ _ _ _ (sound-place _ _ _ (told-yes _ _ c.sound.ensures c.if-not-sound.false-raw)) c.payload_on_sound.ensures).0
+returns-clause-meaning c = (promised _ _ _ _ _ (sound-place _ _ _ (told _ _ _ c.sound.ensures c.if-not-sound.false)) c.payload_on_sound.ensures).0
 
 pub returns-clause-part : goal.returns-clause-part
-returns-clause-part c = (promised _ _ _ _ _ (sound-place _ _ _ (told-yes _ _ c.sound.ensures c.if-not-sound.false-raw)) c.payload_on_sound.ensures).1
+returns-clause-part c = (promised _ _ _ _ _ (sound-place _ _ _ (told _ _ _ c.sound.ensures c.if-not-sound.false)) c.payload_on_sound.ensures).1

@@ -30,4 +30,4 @@ pub slice_bounds-result-end : goal.slice_bounds-result-end
 slice_bounds-result-end c = lies (goal.at.slice_bounds-result-end c).After-payload_place-place
 
 pub returns : goal.returns
-returns c = part_at _ _ _ _ (place_found (goal.at.returns c).After-payload_place-place)
+returns c = part_at _ _ _ (place_found (goal.at.returns c).After-payload_place-place)

@@ -2,7 +2,7 @@
 use borrow.Author.Rules.{rules}
 use native.Mathlib.Omega.{arith}
 use mathlib.Core.Path.{◌≡◌, refl, sym, ◌∙◌}
-use Prim.Native.Nat.{ℕ, ◌+◌, ◌-◌, ◌≤◌}
+use Prim.Native.Nat.{◌+◌, ◌-◌, ◌≤◌}
 use lib.ListN.{length}
 use Rattle.base.proofs.Counted.{unmapped}
 use Rattle.model.specs.Sound.{packages_most}
@@ -15,13 +15,10 @@ use Rattle.payload.proofs.place.payload_place.Goals as goal
 long : (c : Start) → length c.args.t.packages ≡ packages_most
 long c = search (rules, unmapped)
 
--- the size of the package that was found, and what is known of its place
-abbrev size : tie.After-known-told → ℕ
-size c = (package_at c.before.before.before.before.before.args.t1 c.before.i.given.0.0).size
-
+-- what is known of the place of the package that was found
 placed : (c : In-At) → (PlacedAt c.args.t c.args.store.now c.args.id c.in-At.i)
 placed c =
-    placed_at c.args.t _ c.args.id _ _ c.requires.0 (long c.before.before.before.before.before) c.requires.1 c.find.ensures.place c.in-At.is
+    placed_at c.args.t _ c.args.id _ _ c.requires.0 (long c.before.before.before.before) c.requires.1 c.find.ensures.place c.in-At.is
 
 pub returns-in_default : goal.returns-in_default
 returns-in_default c s same = unknown-place s _ _ _ same _ c.no_place.ensures (nothing-unknown _ _ _ c.find.ensures.place c.in_default.is)
@@ -53,8 +50,9 @@ returns-then-number-ne0 c s same =
 pub overflow_add-result : goal.overflow_add-result
 overflow_add-result c =
     let at = c.area_start-area.result in
-    let inside : c.read_package-read.result.start ≤ at + size (goal.at.overflow_add-result c).In-At - at = start-inside _ _ _ c.read_package-read.ensures.exact in
-    omega (arith, (add-end (goal.at.overflow_add-result c).After-struct_known-1).ranges)
+    let p = placed (goal.at.overflow_add-result c).In-At in
+    let inside : c.read_package-read.result.start ≤ at + (package_at c.args.t c.in-At.i).size - at = start-inside _ _ _ c.read_package-read.ensures.exact in
+    omega (arith, c.area_start-area.ensures, p.area)
 
 pub returns : goal.returns
 returns c s same =

@@ -1,5 +1,4 @@
 -- `change_info::change_info` meets its contract: 1 of an unsound state, and of a sound one the report behind it. Assumes nothing.
-use borrow.Author.Rules.{rules}
 use Rattle.base.proofs.Ladder.{told-yes}
 use Rattle.model.specs.Reading.{change_info_report}
 use Rattle.reading_reply.proofs.ReportLaws.{reports}

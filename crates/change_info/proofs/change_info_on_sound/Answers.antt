@@ -1,5 +1,4 @@
 -- `change_info::change_info_on_sound` meets its contract: the report of the session's changes. Assumes nothing.
-use borrow.Author.Rules.{rules}
 use Rattle.change_info.proofs.ListedLines.{session-short, changes-report}
 use Rattle.change_info.proofs.change_info_on_sound.Goals as goal
 

@@ -1,5 +1,4 @@
 -- `change_info::report_changes` meets its contract: too short, with the length needed, or written. Assumes nothing.
-use borrow.Author.Rules.{rules}
 use Rattle.reading_reply.proofs.ReportLaws.{reports}
 use Rattle.change_info.proofs.report_changes.Goals as goal
 

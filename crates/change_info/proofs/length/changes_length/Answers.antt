@@ -1,6 +1,6 @@
 -- `change_info::length::changes_length` meets its contract. The loop's invariant: the total and the length of the lines of the entries
 -- from i on make the length of the text. The measure is what is left of the entries. Assumes nothing.
-use Prim.Native.Nat.{◌+◌, ◌-◌}
+use Prim.Native.Nat.{◌+◌}
 use native.Mathlib.Omega.{arith}
 use mathlib.Core.Path.{◌≡◌, ap}
 use lib.ListN.{length, drop, get_or}
@@ -9,7 +9,7 @@ use Rattle.base.proofs.Counted.{unmapped}
 use Rattle.actions.specs.View.{view_action}
 use Rattle.model.specs.Reading.{change_lines}
 use Rattle.state.specs.View.{entries_most, no_entry}
-use Rattle.change_info.specs.Changes.{change_line, listed_actions, changes_text}
+use Rattle.change_info.specs.Changes.{change_line, listed_actions}
 use Rattle.change_info.proofs.ListedLines.{lines-over, lines-length-left, text-length-parts}
 use Rattle.change_info.proofs.length.changes_length.Goals.{In-loop-i, Start}
 use Rattle.change_info.proofs.length.changes_length.Goals as goal

@@ -1,6 +1,5 @@
 -- `change_info::write::put_change` meets its contract: each part put behind the one before, with its room. Assumes nothing.
 use native.Mathlib.Omega.{arith}
-use Rattle.text.proofs.PutLaws.{put-length}
 use Rattle.text.proofs.PutPair.{room-first-part, room-between, room-second-part, room-behind, pair_put}
 use Rattle.change_info.proofs.LineParts.{line-pair}
 use Rattle.change_info.proofs.write.put_change.Goals as goal
@@ -12,7 +11,7 @@ pub bounds-buffer-behind_part : goal.bounds-buffer-behind_part
 bounds-buffer-behind_part c = search (room-between (line-pair c.args.a))
 
 pub overflow_add-behind_part : goal.overflow_add-behind_part
-overflow_add-behind_part c = omega (arith, slice-write-buffer (goal.at.overflow_add-behind_part c).After-slice_known-2-1)
+overflow_add-behind_part c = omega (arith, room-between (line-pair c.args.a) _ _ c.requires _ _ c.put_number-behind_part.ensures)
 
 pub put_word-behind_word-requires : goal.put_word-behind_word-requires
 put_word-behind_word-requires c = search (room-second-part (line-pair c.args.a))
@@ -24,4 +23,6 @@ pub returns : goal.returns
 returns c = search (pair_put (line-pair c.args.a))
 
 pub overflow_add-result : goal.overflow_add-result
-overflow_add-result c = omega (arith, (returns (goal.at.overflow_add-result c).After-slice_known-3-1).behind)
+overflow_add-result c =
+    let put = pair_put (line-pair c.args.a) _ _ c.requires _ _ c.put_number-behind_part.ensures _ _ c.put_word-behind_word.ensures in
+    omega (arith, put.behind)

@@ -1,5 +1,4 @@
 -- `cluster_info::report_table` meets its contract: too short, with the length needed, or written. Assumes nothing.
-use borrow.Author.Rules.{rules}
 use Rattle.reading_reply.proofs.ReportLaws.{reports}
 use Rattle.cluster_info.proofs.report_table.Goals as goal
 

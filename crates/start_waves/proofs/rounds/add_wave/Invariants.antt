@@ -1,12 +1,7 @@
 -- `start_waves::rounds::add_wave` meets its contract. The loop's invariant is `Adding`: of the first i clusters those that join are listed.
 -- The measure is what is left of the clusters. Assumes nothing.
-use Prim.Native.Nat.{◌+◌, ◌-◌, ◌*◌, ◌≤◌}
-use mathlib.Core.Path.{◌∙◌}
-use mathlib.Core.Logic.{⊎_elim}
-use native.Mathlib.Omega.{arith}
-use lib.ListN.{length}
-use borrow.Author.Rules.{rules}
-use Rattle.start_waves.proofs.Adding.{Adding, adding-passed, adding-joined, room_for, adding-begins, adding-ends}
+use Prim.Native.Nat.{◌-◌}
+use Rattle.start_waves.proofs.Adding.{Adding}
 use Rattle.start_waves.proofs.rounds.add_wave.Given as goal
 
 abbrev pub invariant-loop-i : goal.invariant-loop-i

@@ -1,13 +1,12 @@
 -- `start_waves::rounds::can_start` meets its contract. The loop's invariant: nothing is waited for exactly where nothing is from place j on.
 -- The measure is what is left of the places. Assumes nothing.
-use Prim.Native.Nat.{◌+◌, ◌-◌, ◌*◌, ◌≤◌}
+use Prim.Native.Nat.{◌+◌, ◌*◌}
 use mathlib.Core.Path.{◌≡◌, refl, sym, ap, ◌∙◌}
 use mathlib.Core.Bool.{Bool}
 use mathlib.Core.List.{◌∷◌}
 use native.Mathlib.Omega.{arith}
 use lib.Dec.{eqb}
 use lib.ListN.{drop, get_or}
-use borrow.Author.Rules.{rules}
 use Rattle.clusters.specs.Cluster.{needs_most}
 use Rattle.start_waves.specs.StartOrder.{all}
 use Rattle.start_waves.specs.Listed.{passes, waits_from}
@@ -23,19 +22,21 @@ step c =
     ∙ ap (all (passes c.args.waves.now c.args.own c.args.number)) (waits-step c.args.waits.now c.args.own c.requires.1 c.requires.0 c.loop-j.j (omega arith))
 
 -- whether the place is the own one
-abbrev is-own : tie.In-loop invariant-loop decreases-loop → Bool
-is-own c = let a = c.before.before.args in eqb (get_or a.waits.now (a.own * needs_most + c.before.loop.j) 0) a.own
+abbrev is-own : In-loop-j → Bool
+is-own c = eqb (get_or c.args.waits.now (c.args.own * needs_most + c.loop-j.j) 0) c.args.own
 
 pub loop-j-init : goal.loop-j-init
 loop-j-init c = (omega arith, refl)
 
 pub returns-then-place-own : goal.returns-then-place-own
 returns-then-place-own c =
-    sym (step (goal.at.returns-then-place-own c).In-loop-j ∙ all-stops _ _ _ (waits-for (is-own (goal.at.returns-then-place-own c).After-way_told-1) _ _ c.started_before.ensures c.if-place-own.true))
+    let turn = (goal.at.returns-then-place-own c).In-loop-j in
+    sym (step turn ∙ all-stops _ _ _ (waits-for (is-own turn) _ _ c.started_before.ensures c.if-place-own.true))
 
 pub loop-j-preserved : goal.loop-j-preserved
 loop-j-preserved c =
-    (omega arith, step (goal.at.loop-j-preserved c).In-loop-j ∙ all-goes-on _ _ _ (waits-not (is-own (goal.at.loop-j-preserved c).After-way_told-1) _ _ c.started_before.ensures c.if-place-own.false))
+    let turn = (goal.at.loop-j-preserved c).In-loop-j in
+    (omega arith, step turn ∙ all-goes-on _ _ _ (waits-not (is-own turn) _ _ c.started_before.ensures c.if-place-own.false))
 
 pub returns : goal.returns
 unfolding all

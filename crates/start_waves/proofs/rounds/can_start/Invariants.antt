@@ -1,17 +1,11 @@
 -- `start_waves::rounds::can_start` meets its contract. The loop's invariant: nothing is waited for exactly where nothing is from place j on.
 -- The measure is what is left of the places. Assumes nothing.
-use Prim.Native.Nat.{◌+◌, ◌-◌, ◌*◌, ◌≤◌}
-use mathlib.Core.Path.{◌≡◌, refl, sym, ap, ◌∙◌}
-use mathlib.Core.Bool.{Bool}
-use mathlib.Core.List.{◌∷◌}
-use native.Mathlib.Omega.{arith}
-use lib.Dec.{eqb}
-use lib.ListN.{drop, get_or}
-use borrow.Author.Rules.{rules}
+use Prim.Native.Nat.{◌-◌, ◌≤◌}
+use mathlib.Core.Path.{◌≡◌}
+use lib.ListN.{drop}
 use Rattle.clusters.specs.Cluster.{needs_most}
 use Rattle.start_waves.specs.StartOrder.{all}
 use Rattle.start_waves.specs.Listed.{passes, waits_from}
-use Rattle.start_waves.proofs.JoinLaws.{waits-step, waits_end, all-stops, all-goes-on, waits-for, waits-not}
 use Rattle.start_waves.proofs.rounds.can_start.Given as goal
 
 abbrev pub invariant-loop-j : goal.invariant-loop-j

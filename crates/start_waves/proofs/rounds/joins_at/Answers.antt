@@ -1,5 +1,4 @@
 -- `start_waves::rounds::joins_at` meets its contract. Assumes nothing.
-use borrow.Author.Rules.{rules}
 use Rattle.base.proofs.Ladder.{ladder}
 use Rattle.start_waves.proofs.rounds.joins_at.Goals as goal
 

@@ -1,6 +1,5 @@
 -- `start_waves::rounds::list_waves` meets its contract. The loop's invariant is `Listing`: the waves so far are listed, and the rounds that are
 -- left give the others. The measure is the number of clusters that are not listed. Assumes nothing.
-use Prim.Native.Nat.{◌-◌}
 use mathlib.Core.Path.{◌≡◌, ◌∙◌}
 use mathlib.Core.Bool.{false}
 use native.Mathlib.Omega.{arith}
@@ -9,18 +8,18 @@ use borrow.Author.Rules.{rules}
 use Rattle.clusters.specs.Table.{Table}
 use Rattle.start_waves.specs.StartOrder.{select, add_wave}
 use Rattle.start_waves.specs.Listed.{ArraysOf, joins, Listed}
-use Rattle.start_waves.proofs.Listing.{Listing, listing_begins, none_left, one-round-more, numbered-so-far, still-listed, rest-closed}
+use Rattle.start_waves.proofs.Listing.{listing_begins, none_left, one-round-more, numbered-so-far, still-listed, rest-closed}
 use Rattle.start_waves.proofs.rounds.list_waves.Goals.{After-add_wave-next}
 use Rattle.start_waves.proofs.rounds.list_waves.Goals as goal
 
 -- the buffer keeps its length
-kept : (c : After-add_wave-next) → length c.add_wave-next.new.1.1.1.1.1.1.0 ≡ length c.loop-started.buffer
+kept : (c : After-add_wave-next) → length c.add_wave-next.new.buffer ≡ length c.loop-started.buffer
 kept c = search rules
 
 -- what a round listed
 listed : (c : After-add_wave-next) (t : Table) (of : (ArraysOf c.args.parts.now c.args.waits.now c.args.size t))
     → (let entries = (c.loop-started.invariant.lists t of).entries in
-    Listed t (add_wave entries (select (joins false entries) t)) c.add_wave-next.result c.args.buffer.now c.add_wave-next.new.1.1.1.1.1.1.0)
+    Listed t (add_wave entries (select (joins false entries) t)) c.add_wave-next.result c.args.buffer.now c.add_wave-next.new.buffer)
 listed c t of =
     let so_far = c.loop-started.invariant.lists t of in
     c.add_wave-next.ensures.listed t so_far.entries _ of so_far.next (numbered-so-far _ _ _ _ _ so_far) so_far.listed

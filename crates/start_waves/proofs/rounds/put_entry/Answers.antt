@@ -2,7 +2,6 @@
 use native.Mathlib.Numerals.{add-one}
 use native.Mathlib.Omega.{arith}
 use lib.ListN.{length-set}
-use borrow.Author.Rules.{rules}
 use Rattle.start_waves.proofs.rounds.put_entry.Goals as goal
 
 pub bounds-buffer-at-2 : goal.bounds-buffer-at-2

@@ -1,6 +1,5 @@
 -- `start_waves::waits::place_or_behind` meets its contract. Assumes nothing.
 use mathlib.Core.Path.{sym, ap, ◌∙◌}
-use borrow.Author.Rules.{rules}
 use Rattle.place_in_list.specs.Place.{place_or}
 use Rattle.clusters.specs.Table.{clusters_most}
 use Rattle.start_waves.proofs.waits.place_or_behind.Goals as goal

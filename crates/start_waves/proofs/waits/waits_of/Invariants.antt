@@ -1,18 +1,9 @@
 -- `start_waves::waits::waits_of` meets its contract. The loop's invariant: the places below k are those of the table. The measure is what is left
 -- of the places. Assumes nothing.
-use Prim.Native.Nat.{◌-◌, ◌*◌, ◌/◌, ◌≤◌, ◌<◌}
-use mathlib.Core.Path.{◌≡◌, refl, ◌∙◌}
-use native.Mathlib.Nat.{div-add-mod'}
-use native.Mathlib.Omega.{arith}
-use lib.ListN.{length}
-use borrow.Author.Rules.{rules}
-use Rattle.base.proofs.Counted.{unmapped}
+use Prim.Native.Nat.{◌-◌, ◌*◌, ◌≤◌}
 use Rattle.clusters.specs.Cluster.{needs_most}
-use Rattle.clusters.specs.Table.{clusters_most}
 use Rattle.clusters.specs.View.{view_table}
-use Rattle.clusters.proofs.Views.{few-of-within, few-needs-at}
-use Rattle.start_waves.specs.Waits.{WaitsOf}
-use Rattle.start_waves.proofs.WaitLaws.{FilledTo, filled_more, wait-of-struct}
+use Rattle.start_waves.proofs.WaitLaws.{FilledTo}
 use Rattle.start_waves.proofs.waits.waits_of.Given as goal
 
 abbrev pub invariant-loop-k : goal.invariant-loop-k

@@ -1,5 +1,6 @@
 // What a program in C links. Each exported function has the prefix `wozkindu_` and is declared in include/wozkindu.h.
 #![tactic(auto)]
+
 ghost use Rattle.std.specs.Prelude.{◌≡◌};
 ghost use Rattle.call_rows.specs.Rows.{decoded};
 ghost use Rattle.c_interface.specs.Results.{result_number};

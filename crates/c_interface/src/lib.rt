@@ -1,4 +1,5 @@
-// What a program in C links. Each exported function has the prefix `wozkindu_` and is declared in include/wozkindu.h.
+// What a program in C is given: the functions that `c_interface_c` exports, each with the prefix `wozkindu_`. include/wozkindu.h declares
+// them.
 #![tactic(auto)]
 
 ghost use Rattle.std.specs.Prelude.{◌≡◌};
@@ -40,8 +41,7 @@ pub fn nothing_loaded() -> State
 
 // Loads, and then makes every call of the list, as `call_list::loaded::load_and_run` from a state that nothing was loaded into. The state
 // then is kept by nobody. Of the numbers other than 0 each says that no call was made and nothing was written.
-#[unsafe(no_mangle)]
-pub extern "C" fn wozkindu_load_and_run(
+pub fn wozkindu_load_and_run(
     list: &[u8],
     first: u32,
     store: &mut [u8],

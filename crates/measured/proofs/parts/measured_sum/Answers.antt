@@ -7,8 +7,7 @@ use Prim.Native.Nat.{ℕ}
 use Rattle.checksum.specs.declared.Sums.{Sums}
 use Rattle.checksum.specs.Sum.{start_sums, continued, sum_number, sum_of, sums_within}
 use Rattle.checksum.proofs.Laws.{start-within, continued-within}
-use Rattle.measured.proofs.parts.measured_sum.Statement.{statement}
-use Rattle.measured.proofs.parts.measured_sum.Tie as tie
+use Rattle.measured.proofs.parts.measured_sum.Goals as goal
 
 begins-within : (first : Sums) → first ≡ start_sums → sums_within first ≡ true
 begins-within first is = ap sums_within is ∙ start-within
@@ -21,18 +20,11 @@ whole : (first last : Sums) (bytes : List ℕ) (number : ℕ) → first ≡ star
 unfolding sum_of
 whole first last bytes number is ends gives = gives ∙ ap sum_number (ends ∙ ap (λ (s : Sums). continued s bytes) is)
 
-start-requires : tie.Need-start-requires
-start-requires c κs = search rules
+pub continue_sum-requires : goal.continue_sum-requires
+continue_sum-requires c = search begins-within
 
-continue-sum-requires : tie.Need-continue-sum-requires
-continue-sum-requires c κs = search begins-within
+pub number-requires : goal.number-requires
+number-requires c = search ends-within
 
-number-requires : tie.Need-number-requires
-number-requires c κs = search ends-within
-
-returns : tie.Need-returns
+pub returns : goal.returns
 returns c = search whole
-
-pub measured-sum-spec : {M : Type 1} → statement M
-measured-sum-spec =
-    tie.close (tie.spec start-requires continue-sum-requires number-requires returns)

@@ -1,13 +1,12 @@
 -- `measured::calls::make_each` meets its contract. The loop's invariant is `TwelveSoFar`: what is left of the words is a list of calls, and
 -- where all are of the twelve, the calls of the words before i were made and their answers stand before `at`. The measure is the number of
 -- words left. Assumes nothing.
-use Prim.Native.Nat.{◌+◌, ◌-◌, ◌^◌, ◌≤◌, ◌<◌}
+use Prim.Native.Nat.{◌+◌, ◌^◌, ◌≤◌, ◌<◌}
 use mathlib.Core.Path.{ap}
-use borrow.Author.Rules.{rules}
 use native.Mathlib.Omega.{arith}
 use lib.ListN.{length}
 use Rattle.state.specs.declared.answer.Answered.{Answered}
-use Rattle.measured.proofs.TwelveLaws.{TwelveSoFar, none_yet, row-left, room-left, one-more-twelve, all-twelve-made}
+use Rattle.measured.proofs.TwelveLaws.{none_yet, row-left, room-left, one-more-twelve, all-twelve-made}
 use Rattle.measured.proofs.calls.make_each.Goals.{In-loop-i}
 use Rattle.measured.proofs.calls.make_each.Goals as goal
 

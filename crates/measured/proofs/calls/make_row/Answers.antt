@@ -1,6 +1,5 @@
 -- `measured::calls::make_row` meets its contract: a malformed row is no call, an old call none of the twelve, and the call of any other is
 -- made with its block. Assumes nothing.
-use borrow.Author.Rules.{rules}
 use Rattle.call_rows.proofs.RowLaws.{block_within}
 use Rattle.measured.proofs.TwelveRow.{no_call, no-twelve, twelve-call}
 use Rattle.measured.proofs.calls.make_row.Goals as goal

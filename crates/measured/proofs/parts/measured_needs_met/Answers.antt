@@ -1,16 +1,13 @@
 -- `measured::parts::measured_needs_met` meets its contract. The loop's invariant is `Counted`: at so many of the turns before i the needs
 -- were met. The measure is the number of turns left. Assumes nothing.
-use Prim.Native.Nat.{◌-◌}
 use mathlib.Core.Path.{ap, ◌∙◌}
 use native.Mathlib.Omega.{arith}
-use borrow.Author.Rules.{rules}
-use lib.ListN.{length}
 use Rattle.clusters.specs.Table.{needs_met}
 use Rattle.clusters.specs.View.{view_table}
 use Rattle.cluster_list.specs.declared.read.ListRead.{ListRead}
 use Rattle.cluster_list.proofs.Within.{list-read-within}
 use Rattle.measured.specs.Turns.{turns_met}
-use Rattle.measured.proofs.TurnLaws.{Counted, none-counted, few-more, one-more-counted, all-counted}
+use Rattle.measured.proofs.TurnLaws.{none-counted, few-more, one-more-counted, all-counted}
 use Rattle.measured.proofs.parts.measured_needs_met.Goals as goal
 
 pub loop-i-init : goal.loop-i-init

@@ -1,5 +1,4 @@
 -- `measured::parts::measured_read_package` meets its contract: the part number in what the reader gives. Assumes nothing.
-use borrow.Author.Rules.{rules}
 use mathlib.Core.Path.{ap}
 use Rattle.manifest.specs.declared.package.PackageRead.{PackageRead}
 use Rattle.measured.proofs.parts.measured_read_package.Goals as goal

@@ -1,5 +1,4 @@
 -- `measured::parts::measured_sum` meets its contract: the sum from the start over all bytes. Assumes nothing.
-use borrow.Author.Rules.{rules}
 use mathlib.Core.Path.{◌≡◌, ap, ◌∙◌}
 use mathlib.Core.Bool.{true}
 use mathlib.Core.List.{List}

@@ -1,5 +1,4 @@
 -- `measured::parts::met_at` meets its contract: each return is the one that the definition takes. Assumes nothing.
-use borrow.Author.Rules.{rules}
 use Rattle.base.proofs.Ladder.{told-ladder}
 use Rattle.measured.specs.Turns.{met_at}
 use Rattle.measured.proofs.parts.met_at.Goals as goal

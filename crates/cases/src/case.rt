@@ -25,7 +25,7 @@ fn field_start(case: &[u8], k: usize) -> usize
 // Gives field number k of a case, counted from 0.
 pub fn field(case: &[u8], k: usize) -> &[u8] {
     let from = field_start(case, k);
-    let to = bytes::scan::find(case, from, case.len(), b';');
+    let to = byte_search::find(case, from, case.len(), b';');
     &case[from..to]
 }
 

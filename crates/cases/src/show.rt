@@ -1,67 +1,68 @@
-// Prints to standard output.
+// Prints to standard output. Each function returns the error of a write that fails.
 use crate::case::field;
-use libc::STDOUT_FILENO;
+use std::io;
 
-pub fn bytes(s: &[u8]) {
-    io::write_all(STDOUT_FILENO, s);
+pub fn bytes(rt: &HostRuntime, s: &[u8]) -> io::Result<()> {
+    rt.write_all(s)
 }
 
-pub fn byte(b: u8) {
+pub fn byte(rt: &HostRuntime, b: u8) -> io::Result<()> {
     let one = [b; 1];
-    io::write_all(STDOUT_FILENO, &one);
+    rt.write_all(&one)
 }
 
-pub fn number(n: u32) {
-    io::print_decimal(STDOUT_FILENO, n as u64);
+pub fn number(rt: &HostRuntime, n: u32) -> io::Result<()> {
+    rt.print(n)
 }
 
-pub fn count(n: usize) {
-    io::print_decimal(STDOUT_FILENO, n as u64);
+pub fn count(rt: &HostRuntime, n: usize) -> io::Result<()> {
+    rt.print(n)
 }
 
 // Prints how many bytes there are.
-pub fn length(n: usize) {
-    byte(b' ');
-    count(n);
-    bytes(b" bytes");
+pub fn length(rt: &HostRuntime, n: usize) -> io::Result<()> {
+    byte(rt, b' ')?;
+    count(rt, n)?;
+    bytes(rt, b" bytes")
 }
 
 // Prints a sentence with the fields of a case behind the first, one for each `%`.
-pub fn with_fields(sentence: &[u8], case: &[u8]) {
+pub fn with_fields(rt: &HostRuntime, sentence: &[u8], case: &[u8]) -> io::Result<()> {
     let mut k = 1;
     let mut i = 0;
     while i < sentence.len() {
         let b = sentence[i];
         if b == b'%' {
-            bytes(field(case, k));
+            bytes(rt, field(case, k))?;
             k += 1;
         } else {
-            byte(b);
+            byte(rt, b)?;
         }
         i += 1;
     }
+    Ok(())
 }
 
 // Here and below: prints an answer that ends its line.
-pub fn value(n: u32) {
-    byte(b' ');
-    number(n);
-    byte(b'\n');
+pub fn value(rt: &HostRuntime, n: u32) -> io::Result<()> {
+    byte(rt, b' ')?;
+    number(rt, n)?;
+    byte(rt, b'\n')
 }
 
-pub fn yes_or_no(b: bool) {
+pub fn yes_or_no(rt: &HostRuntime, b: bool) -> io::Result<()> {
     if b {
-        bytes(b" yes\n");
+        bytes(rt, b" yes\n")
     } else {
-        bytes(b" no\n");
+        bytes(rt, b" no\n")
     }
 }
 
-pub fn ill_formed() {
-    bytes(b" ill-formed\n");
+pub fn ill_formed(rt: &HostRuntime) -> io::Result<()> {
+    bytes(rt, b" ill-formed\n")
 }
 
-pub fn refused(number: u32) {
-    bytes(b" refused");
-    value(number);
+pub fn refused(rt: &HostRuntime, number: u32) -> io::Result<()> {
+    bytes(rt, b" refused")?;
+    value(rt, number)
 }

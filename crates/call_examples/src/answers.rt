@@ -2,35 +2,36 @@
 use cases::show;
 use state::answer::{Answer, Answered};
 use state::state::State;
+use std::io;
 
-fn show_named(answer: Answer) {
+fn show_named(rt: &HostRuntime, answer: Answer) -> io::Result<()> {
     match answer {
         Answer::Id(id) => {
-            show::bytes(b" id ");
-            show::number(id);
+            show::bytes(rt, b" id ")?;
+            show::number(rt, id)
         }
-        Answer::Done => show::bytes(b" Done"),
-        Answer::Working => show::bytes(b" Working"),
-        Answer::Processed => show::bytes(b" Processed"),
-        Answer::Cancelled => show::bytes(b" Cancelled"),
-        Answer::Inconsistent => show::bytes(b" Inconsistent"),
-        Answer::PreActivationFailed => show::bytes(b" PreActivationFailed"),
-        Answer::MissingDependencies => show::bytes(b" MissingDependencies"),
-        Answer::VerificationFailed => show::bytes(b" VerificationFailed"),
-        Answer::NotAbleToRollback => show::bytes(b" NotAbleToRollback"),
-        Answer::NotAbleToRevert => show::bytes(b" NotAbleToRevert"),
-        Answer::CleaningFailed => show::bytes(b" CleaningFailed"),
+        Answer::Done => show::bytes(rt, b" Done"),
+        Answer::Working => show::bytes(rt, b" Working"),
+        Answer::Processed => show::bytes(rt, b" Processed"),
+        Answer::Cancelled => show::bytes(rt, b" Cancelled"),
+        Answer::Inconsistent => show::bytes(rt, b" Inconsistent"),
+        Answer::PreActivationFailed => show::bytes(rt, b" PreActivationFailed"),
+        Answer::MissingDependencies => show::bytes(rt, b" MissingDependencies"),
+        Answer::VerificationFailed => show::bytes(rt, b" VerificationFailed"),
+        Answer::NotAbleToRollback => show::bytes(rt, b" NotAbleToRollback"),
+        Answer::NotAbleToRevert => show::bytes(rt, b" NotAbleToRevert"),
+        Answer::CleaningFailed => show::bytes(rt, b" CleaningFailed"),
         Answer::Refused(number) => {
-            show::bytes(b" refused ");
-            show::number(number);
+            show::bytes(rt, b" refused ")?;
+            show::number(rt, number)
         }
     }
 }
 
 // Prints the answer and gives the state.
-pub fn show_answer(r: Answered) -> State {
+pub fn show_answer(rt: &HostRuntime, r: Answered) -> io::Result<State> {
     let answer = r.answer;
-    show_named(answer);
+    show_named(rt, answer)?;
     let s = r.state;
-    s
+    Ok(s)
 }

@@ -8,27 +8,29 @@ mod old_calls;
 mod unsound;
 
 use crate::calls::make_case;
+use cases::input::read_full;
 use cases::show;
 use clusters::table::empty_table;
-use libc::STDIN_FILENO;
 use state::state::loaded_state;
+use std::io;
 
 // Plays each case, from behind its `#` to the next.
-fn make_calls(input: &[u8], store: &mut [u8]) {
+fn make_calls(rt: &HostRuntime, input: &[u8], store: &mut [u8]) -> io::Result<()> {
     let mut s = loaded_state(empty_table(), 1);
     let mut at = 0;
     while at < input.len() {
         let from = at + 1;
-        let end = bytes::scan::find(input, from, input.len(), b'#');
-        s = make_case(s, store, &input[from..end]);
-        show::byte(b'\n');
+        let end = byte_search::find(input, from, input.len(), b'#');
+        s = make_case(rt, s, store, &input[from..end])?;
+        show::byte(rt, b'\n')?;
         at = end;
     }
+    Ok(())
 }
 
-fn main() {
-    let mut input = io::large_buffer();
-    let length = io::read_full(STDIN_FILENO, &mut input);
+fn main(rt: HostRuntime) -> io::Result<()> {
+    let mut input = [0u8; 65536];
+    let length = read_full(&rt, &mut input)?;
     let mut store = [255u8; 200];
-    make_calls(&input[..length], &mut store);
+    make_calls(&rt, &input[..length], &mut store)
 }

@@ -3,33 +3,34 @@ ghost use Rattle.std.specs.Prelude.{◌-◌, ◌≤◌, ◌<◌, ◌≡◌, leng
 ghost use Rattle.text.specs.Put.{Put};
 ghost use Rattle.clist.specs.Input.{CountsRead, PartCounts, part_read};
 
-use libc::STDIN_FILENO;
+use std::io;
+use std::io::Read;
 use text::write::put_bytes;
 
-// How many bytes were read: the whole input, or as many as the buffer has; or that a read failed.
+// How many bytes were read: the whole input, or as many as the buffer has; or the error of a read that failed.
 #[derive(Clone, Copy)]
 pub enum InputRead {
     Bytes(usize),
-    Failed,
+    Failed(io::Error),
 }
 
-// What one read gave: so many bytes, the end of the input, or that it failed.
+// What one read gave: so many bytes, the end of the input, or the error that it failed with.
 #[derive(Clone, Copy)]
 pub enum PartRead {
     Bytes(usize),
     Ended,
-    Failed,
+    Failed(io::Error),
 }
 
-// Says what a read gave by the number that it answered.
-fn part_read(got: isize, part: &[u8]) -> PartRead
+// Says what a read gave by what it answered.
+fn part_read(got: io::Result<usize>, part: &[u8]) -> PartRead
     ensures answer { result ≡ part_read got (length part.now) }
     ensures inside { PartCounts result part.now }
 {
-    if got < 0 {
-        return PartRead::Failed;
-    }
-    let count = io::count(got, part);
+    let count = match got {
+        Ok(count) => count.min(part.len()),
+        Err(e) => return PartRead::Failed(e),
+    };
     if count == 0 {
         return PartRead::Ended;
     }
@@ -51,14 +52,15 @@ fn take_part(buf: &mut [u8], done: usize, part: &[u8]) -> usize
 }
 
 // Reads until the buffer is full, the input ends or a read fails. The parts go by way of a second buffer.
-pub fn read_parts(buf: &mut [u8], part: &mut [u8]) -> InputRead
+pub fn read_parts(rt: &HostRuntime, buf: &mut [u8], part: &mut [u8]) -> InputRead
     ensures { CountsRead result buf.new }
 {
+    let mut stdin = rt.stdin();
     let mut done = 0;
     while done < buf.len() {
-        let got = libc::read(STDIN_FILENO, part);
+        let got = stdin.read(part);
         match part_read(got, part) {
-            PartRead::Failed => return InputRead::Failed,
+            PartRead::Failed(e) => return InputRead::Failed(e),
             PartRead::Ended => return InputRead::Bytes(done),
             PartRead::Bytes(count) => done = take_part(buf, done, &part[..count]),
         }

@@ -7,19 +7,20 @@ mod print;
 use crate::input::{InputRead, read_parts};
 use crate::print::put_answer_to_read;
 use cluster_list::limits::{READ_LIST_MOST, WRITTEN_LIST_MOST};
-use libc::STDOUT_FILENO;
+use std::io;
 
-fn main() {
+fn main(rt: HostRuntime) -> io::Result<()> {
     // one byte more than a list can have, so that a longer input shows
     let mut read = [0u8; READ_LIST_MOST + 1];
-    let mut part = io::buffer();
-    let InputRead::Bytes(count) = read_parts(&mut read, &mut part) else {
-        os::fail(b"clist: standard input");
-        return;
+    let mut part = [0u8; 4096];
+    let count = match read_parts(&rt, &mut read, &mut part) {
+        InputRead::Bytes(count) => count,
+        InputRead::Failed(e) => return rt.eprintln(format_args!("clist: standard input: {e}")),
     };
     let mut answer = [0u8; WRITTEN_LIST_MOST];
     let end = put_answer_to_read(&read, count, &mut answer);
-    if !io::write_all(STDOUT_FILENO, &answer[..end]) {
-        os::fail(b"clist: standard output");
+    match rt.write_all(&answer[..end]) {
+        Ok(()) => Ok(()),
+        Err(e) => rt.eprintln(format_args!("clist: standard output: {e}")),
     }
 }

@@ -7,13 +7,14 @@ use clusters::cluster::{Need, new_cluster};
 use clusters::needs::{meets, needs_met};
 use clusters::table::{append, empty_table};
 use clusters::version::above;
+use std::io;
 use text::version::Version;
 
 // Prints whether a version is above another.
-pub fn compare(case: &[u8]) {
+pub fn compare(rt: &HostRuntime, case: &[u8]) -> io::Result<()> {
     let v = version_of(field(case, 1));
     let w = version_of(field(case, 2));
-    show::yes_or_no(above(v, w));
+    show::yes_or_no(rt, above(v, w))
 }
 
 // Says whether a table that holds cluster 20 alone, at a version, meets a need.
@@ -23,15 +24,15 @@ fn is_met(part: u32, least: Version, held: Version) -> bool {
 }
 
 // Prints whether a need of a part number at a least version is met in a table that holds cluster 20 at a version.
-pub fn need(case: &[u8]) {
+pub fn need(rt: &HostRuntime, case: &[u8]) -> io::Result<()> {
     let part = number_of(field(case, 1));
     let least = version_of(field(case, 2));
     let held = version_of(field(case, 3));
-    show::yes_or_no(is_met(part, least, held));
+    show::yes_or_no(rt, is_met(part, least, held))
 }
 
 // Prints whether the table that a list says meets all its needs. The fields before the list say in words what is in it.
-pub fn needs(case: &[u8]) {
+pub fn needs(rt: &HostRuntime, case: &[u8]) -> io::Result<()> {
     let read = read_list(field(case, 3));
-    show::yes_or_no(needs_met(read.table));
+    show::yes_or_no(rt, needs_met(read.table))
 }

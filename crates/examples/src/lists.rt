@@ -5,26 +5,26 @@ use cluster_list::limits::{WRITTEN_LIST_MOST, longest_read, longest_written};
 use cluster_list::read::{ListAnswer, read_list};
 use cluster_list_writer::length::list_length;
 use cluster_list_writer::write::write_list;
+use std::io;
 
 // Reads the list in the field behind what the case is of, and prints its length known beforehand and the list that our writer writes.
-pub fn list(case: &[u8]) {
+pub fn list(rt: &HostRuntime, case: &[u8]) -> io::Result<()> {
     let read = read_list(field(case, 2));
     let answer = read.answer;
     let ListAnswer::WellFormed = answer else {
-        show::ill_formed();
-        return;
+        return show::ill_formed(rt);
     };
-    show::length(list_length(read.table));
-    show::byte(b'\n');
+    show::length(rt, list_length(read.table))?;
+    show::byte(rt, b'\n')?;
     let mut buffer = [0u8; WRITTEN_LIST_MOST];
     let end = write_list(&mut buffer, read.table);
-    show::bytes(&buffer[..end]);
+    show::bytes(rt, &buffer[..end])
 }
 
 // Prints how long a list can be that is written, and one that can be read.
-pub fn longest() {
-    show::length(longest_written());
-    show::bytes(b" written,");
-    show::length(longest_read());
-    show::bytes(b" read\n");
+pub fn longest(rt: &HostRuntime) -> io::Result<()> {
+    show::length(rt, longest_written())?;
+    show::bytes(rt, b" written,")?;
+    show::length(rt, longest_read())?;
+    show::bytes(rt, b" read\n")
 }

@@ -11,23 +11,25 @@ mod table_actions;
 mod versions;
 
 use crate::kinds::show_case;
-use libc::STDIN_FILENO;
+use cases::input::read_full;
+use std::io;
 
 // Prints each case, from behind its `#` to the next.
-fn show_cases(input: &[u8]) {
+fn show_cases(rt: &HostRuntime, input: &[u8]) -> io::Result<()> {
     let mut at = 1;
     while at < input.len() {
-        let end = bytes::scan::find(input, at, input.len(), b'#');
-        show_case(&input[at..end]);
+        let end = byte_search::find(input, at, input.len(), b'#');
+        show_case(rt, &input[at..end])?;
         if input.len() <= end {
-            return;
+            return Ok(());
         }
         at = end + 1;
     }
+    Ok(())
 }
 
-fn main() {
-    let mut input = io::large_buffer();
-    let length = io::read_full(STDIN_FILENO, &mut input);
-    show_cases(&input[..length]);
+fn main(rt: HostRuntime) -> io::Result<()> {
+    let mut input = [0u8; 65536];
+    let length = read_full(&rt, &mut input)?;
+    show_cases(&rt, &input[..length])
 }

@@ -3,6 +3,7 @@ use cases::case::field;
 use cases::show;
 use cases::values::number_of;
 use checksum::{continue_sum, number, start};
+use std::io;
 
 // Gives the sum of two parts, continued from the first to the second.
 fn sum_of(first: &[u8], second: &[u8]) -> u32 {
@@ -10,8 +11,8 @@ fn sum_of(first: &[u8], second: &[u8]) -> u32 {
 }
 
 // Prints the sum of two parts.
-pub fn sum(case: &[u8]) {
-    show::value(sum_of(field(case, 1), field(case, 2)));
+pub fn sum(rt: &HostRuntime, case: &[u8]) -> io::Result<()> {
+    show::value(rt, sum_of(field(case, 1), field(case, 2)))
 }
 
 // Gives each byte once, in order.
@@ -26,16 +27,15 @@ fn bytes_in_order() -> [u8; 256] {
 }
 
 // Prints the sum of the bytes from a place on, then of those before it; `ill-formed` where there is no such place.
-fn sum_around(bytes: &[u8], from: usize) {
+fn sum_around(rt: &HostRuntime, bytes: &[u8], from: usize) -> io::Result<()> {
     if bytes.len() < from {
-        show::ill_formed();
-        return;
+        return show::ill_formed(rt);
     }
-    show::value(sum_of(&bytes[from..], &bytes[0..from]));
+    show::value(rt, sum_of(&bytes[from..], &bytes[0..from]))
 }
 
 // Prints the sum of all 256 bytes in order, from the place that the case gives on, then of those before it.
-pub fn sum_in_order(case: &[u8]) {
+pub fn sum_in_order(rt: &HostRuntime, case: &[u8]) -> io::Result<()> {
     let bytes = bytes_in_order();
-    sum_around(&bytes, number_of(field(case, 1)) as usize);
+    sum_around(rt, &bytes, number_of(field(case, 1)) as usize)
 }

@@ -8,56 +8,56 @@ use cluster_list::read::read_list;
 use clusters::cluster::{Cluster, new_cluster, with_mark};
 use clusters::table::{CLUSTERS_MOST, Table};
 use package_heading::change::{ChangeRead, change_of};
+use std::io;
 
 // Prints the part number and the last part of the version of a cluster, and whether it stays.
-fn show_cluster(cluster: Cluster) {
-    show::byte(b' ');
-    show::number(cluster.part);
-    show::byte(b':');
-    show::number(cluster.version.fourth);
+fn show_cluster(rt: &HostRuntime, cluster: Cluster) -> io::Result<()> {
+    show::byte(rt, b' ')?;
+    show::number(rt, cluster.part)?;
+    show::byte(rt, b':')?;
+    show::number(rt, cluster.version.fourth)?;
     if cluster.stays {
-        show::bytes(b" stays");
+        return show::bytes(rt, b" stays");
     }
+    Ok(())
 }
 
 // Prints each cluster of a table.
-fn show_table(table: Table) {
+fn show_table(rt: &HostRuntime, table: Table) -> io::Result<()> {
     let count = table.count;
     let mut i = 0;
     while i < count {
         if CLUSTERS_MOST <= i {
-            return;
+            return Ok(());
         }
-        show_cluster(table.clusters[i]);
+        show_cluster(rt, table.clusters[i])?;
         i += 1;
     }
-    show::byte(b'\n');
+    show::byte(rt, b'\n')
 }
 
 // Prints the refusal of an action on a table, or the table with it applied.
-fn act(table: Table, action: Action) {
+fn act(rt: &HostRuntime, table: Table, action: Action) -> io::Result<()> {
     if table.count > CLUSTERS_MOST {
-        return;
+        return Ok(());
     }
     let refusal = action_refusal(table, false, action);
     if 0 < refusal {
-        show::refused(refusal);
-        return;
+        return show::refused(rt, refusal);
     }
-    show_table(apply(table, action));
+    show_table(rt, apply(table, action))
 }
 
 // Reads an action as word, part number and version, and the list that says the table. The mark of the action's own cluster is 1: it plays
 // no part.
-pub fn action(case: &[u8]) {
+pub fn action(rt: &HostRuntime, case: &[u8]) -> io::Result<()> {
     let ChangeRead::Value(change, _) = change_of(field(case, 1)) else {
-        show::ill_formed();
-        return;
+        return show::ill_formed(rt);
     };
     let cluster = with_mark(
         new_cluster(number_of(field(case, 2)), version_of(field(case, 3))),
         true,
     );
     let read = read_list(field(case, 4));
-    act(read.table, Action { change, cluster });
+    act(rt, read.table, Action { change, cluster })
 }

@@ -1,19 +1,19 @@
 // Versions as text.
 use cases::case::field;
 use cases::show;
+use std::io;
 use text::version::{VersionRead, whole_version};
 use text::write::{put_version, version_length};
 
 // Reads a version, and prints how many bytes it takes and the version written in a buffer of dashes.
-pub fn read(case: &[u8]) {
+pub fn read(rt: &HostRuntime, case: &[u8]) -> io::Result<()> {
     let VersionRead::Value(version, _) = whole_version(field(case, 1)) else {
-        show::ill_formed();
-        return;
+        return show::ill_formed(rt);
     };
-    show::length(version_length(version));
-    show::byte(b' ');
+    show::length(rt, version_length(version))?;
+    show::byte(rt, b' ')?;
     let mut buffer = [b'-'; 30];
     put_version(&mut buffer, 1, version);
-    show::bytes(&buffer);
-    show::byte(b'\n');
+    show::bytes(rt, &buffer)?;
+    show::byte(rt, b'\n')
 }

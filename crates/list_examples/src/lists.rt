@@ -12,6 +12,7 @@ use cases::show;
 use cases::values::number_of;
 use clusters::table::empty_table;
 use state::state::loaded_state;
+use std::io;
 
 // Runs the list from the table of the case.
 fn run_list(case: &[u8], words: &[u32], store: &mut [u8], answers: &mut [u32]) -> RepliedList {
@@ -29,26 +30,38 @@ fn run_list(case: &[u8], words: &[u32], store: &mut [u8], answers: &mut [u32]) -
 }
 
 // Prints the answers of a list that was made, and the state then; or why none was made.
-fn show_replied(list: RepliedList, answers: &[u32], count: usize) {
+fn show_replied(rt: &HostRuntime, list: RepliedList, answers: &[u32], count: usize) -> io::Result<()> {
     let reply = list.reply;
     match reply {
         ListReply::Made => {
-            show_answers(answers, count);
-            show_state(list.state);
+            show_answers(rt, answers, count)?;
+            show_state(rt, list.state)
         }
-        ListReply::BadLoad => show::bytes(b" refused 20\n"),
-        ListReply::Malformed => show::bytes(b" malformed\n"),
-        ListReply::ShortAnswers => show::bytes(b" more calls than answers\n"),
+        ListReply::BadLoad => show::bytes(rt, b" refused 20\n"),
+        ListReply::Malformed => show::bytes(rt, b" malformed\n"),
+        ListReply::ShortAnswers => show::bytes(rt, b" more calls than answers\n"),
     }
 }
 
-fn show_list(case: &[u8], words: &[u32], store: &mut [u8], answers: &mut [u32]) {
+fn show_list(
+    rt: &HostRuntime,
+    case: &[u8],
+    words: &[u32],
+    store: &mut [u8],
+    answers: &mut [u32],
+) -> io::Result<()> {
     let list = run_list(case, words, store, answers);
-    show_replied(list, answers, words.len() / 3);
+    show_replied(rt, list, answers, words.len() / 3)
 }
 
 // Makes the list as a program in C does, and prints the number that it is answered.
-fn show_number(case: &[u8], words: &[u32], store: &mut [u8], answers: &mut [u32]) {
+fn show_number(
+    rt: &HostRuntime,
+    case: &[u8],
+    words: &[u32],
+    store: &mut [u8],
+    answers: &mut [u32],
+) -> io::Result<()> {
     let first = number_of(field(case, 1));
     let number = wozkindu_load_and_run(
         field(case, 2),
@@ -58,70 +71,72 @@ fn show_number(case: &[u8], words: &[u32], store: &mut [u8], answers: &mut [u32]
         field(case, 5),
         answers,
     );
-    show::byte(b' ');
-    show::number(number);
-    show::byte(b',');
+    show::byte(rt, b' ')?;
+    show::number(rt, number)?;
+    show::byte(rt, b',')
 }
 
 // Makes the list as a program in C does, with a store and answers of its own.
-fn play_number(case: &[u8], words: &[u32]) {
+fn play_number(rt: &HostRuntime, case: &[u8], words: &[u32]) -> io::Result<()> {
     let mut store = [255u8; 2000];
     let mut answers = [0u32; 400];
-    show_number(case, words, &mut store, &mut answers);
+    show_number(rt, case, words, &mut store, &mut answers)
 }
 
-fn play_list(case: &[u8], words: &[u32]) {
-    play_number(case, words);
+fn play_list(rt: &HostRuntime, case: &[u8], words: &[u32]) -> io::Result<()> {
+    play_number(rt, case, words)?;
     let mut store = [255u8; 2000];
     let mut answers = [0u32; 400];
-    show_list(case, words, &mut store, &mut answers);
+    show_list(rt, case, words, &mut store, &mut answers)
 }
 
 // Makes the further call of a row, behind the list, and prints its answer.
 fn show_further_call(
+    rt: &HostRuntime,
     case: &[u8],
     words: &[u32],
     row: &[u32],
     store: &mut [u8],
     answers: &mut [u32],
-) {
+) -> io::Result<()> {
     let before = run_list(case, words, store, answers);
     let list = run(before.state, store, row, field(case, 5), answers);
-    show_replied(list, answers, row.len() / 3);
+    show_replied(rt, list, answers, row.len() / 3)
 }
 
-fn play_further_call(case: &[u8], words: &[u32], text: &[u8]) {
+fn play_further_call(rt: &HostRuntime, case: &[u8], words: &[u32], text: &[u8]) -> io::Result<()> {
     let mut store = [255u8; 2000];
     let mut answers = [0u32; 400];
     let mut row = [0u32; 6];
     put_words(&mut row, text);
-    show_further_call(case, words, &row, &mut store, &mut answers);
+    show_further_call(rt, case, words, &row, &mut store, &mut answers)
 }
 
-fn play_further(case: &[u8], words: &[u32]) {
-    show::byte(b'\n');
+fn play_further(rt: &HostRuntime, case: &[u8], words: &[u32]) -> io::Result<()> {
+    show::byte(rt, b'\n')?;
     let further = field(case, 4);
     let mut at = 0;
     while at < further.len() {
-        let end = bytes::scan::find(further, at, further.len(), b'\n');
-        play_further_call(case, words, &further[at..end]);
+        let end = byte_search::find(further, at, further.len(), b'\n');
+        play_further_call(rt, case, words, &further[at..end])?;
         at = end + 1;
     }
+    Ok(())
 }
 
 // Plays a case; the words lend the room for the list.
-fn play_in(case: &[u8], words: &mut [u32]) {
+fn play_in(rt: &HostRuntime, case: &[u8], words: &mut [u32]) -> io::Result<()> {
     let count = put_words(words, field(case, 3));
     if field(case, 4).len() == 0 {
-        play_list(case, &words[..count]);
+        play_list(rt, case, &words[..count])
     } else {
-        play_further(case, &words[..count]);
+        play_further(rt, case, &words[..count])
     }
 }
 
-pub fn play(case: &[u8]) {
-    show::bytes(field(case, 0));
-    show::byte(b':');
+pub fn play(rt: &HostRuntime, case: &[u8]) -> io::Result<()> {
+    show::bytes(rt, field(case, 0))?;
+    show::byte(rt, b':')?;
     let mut words = [0u32; 1024];
-    play_in(case, &mut words);
+    play_in(rt, case, &mut words)
 }

@@ -7,21 +7,23 @@ mod lists;
 mod words;
 
 use crate::lists::play;
-use libc::STDIN_FILENO;
+use cases::input::read_full;
+use std::io;
 
 // Plays each case, from behind its `#` to the next.
-fn play_all(input: &[u8]) {
+fn play_all(rt: &HostRuntime, input: &[u8]) -> io::Result<()> {
     let mut at = 0;
     while at < input.len() {
         let from = at + 1;
-        let end = bytes::scan::find(input, from, input.len(), b'#');
-        play(&input[from..end]);
+        let end = byte_search::find(input, from, input.len(), b'#');
+        play(rt, &input[from..end])?;
         at = end;
     }
+    Ok(())
 }
 
-fn main() {
-    let mut input = io::large_buffer();
-    let length = io::read_full(STDIN_FILENO, &mut input);
-    play_all(&input[..length]);
+fn main(rt: HostRuntime) -> io::Result<()> {
+    let mut input = [0u8; 65536];
+    let length = read_full(&rt, &mut input)?;
+    play_all(&rt, &input[..length])
 }

@@ -23,7 +23,7 @@ pub fn put_words(words: &mut [u32], text: &[u8]) -> usize
     let mut count = 0;
     let mut at = 0;
     while at < text.len() {
-        let end = bytes::scan::find(text, at, text.len(), b' ');
+        let end = byte_search::find(text, at, text.len(), b' ');
         count = put_word(words, count, number_of(&text[at..end]));
         at = end + 1;
     }

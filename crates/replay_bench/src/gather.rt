@@ -30,7 +30,7 @@ fn behind_line(input: &[u8], at: usize) -> usize
     requires { at < length input.now }
     ensures { (at < result) × (result ≤ length input.now) × (result ≡ at + length (up_to_line_end (drop at input.now))) }
 {
-    let end = bytes::scan::find(input, at, input.len(), b'\n');
+    let end = byte_search::find(input, at, input.len(), b'\n');
     if end < input.len() {
         return end + 1;
     }

@@ -17,8 +17,9 @@ ghost use Rattle.script.specs.Limits.{store_most, line_most};
 
 use crate::bench::{Bench, first_bench, stopped};
 use crate::lines::{take_end, take_lines};
-use libc::STDIN_FILENO;
+use crate::show::show_failure;
 use script::limits::{LINE_MOST, STORE_MOST};
+use std::io::Read;
 
 // Gives the bytes of the program's store. The contract says how many they are, so that they can be lent as a slice; so below.
 fn store_bytes() -> [u8; STORE_MOST as usize]
@@ -37,6 +38,7 @@ fn line_bytes() -> [u8; LINE_MOST]
 // Reads once and plays what came. Precondition: the buffer is at least as long as that of the line, as `play_standard_input` lends them,
 // and the bench goes on, which `read_all` has tested.
 fn read_some(
+    rt: &HostRuntime,
     bench: Bench,
     bytes: &mut [u8],
     line: &mut [u8],
@@ -46,23 +48,29 @@ fn read_some(
     requires line_in_bounds { length line.old ≤ length buffer.old }
     requires goes_on_value { bench.gathering.goes_on ≡ true }
 {
-    let got = libc::read(STDIN_FILENO, input);
-    if got < 0 {
-        os::fail(b"replay: standard input");
+    let mut stdin = rt.stdin();
+    match stdin.read(input) {
+        Err(e) => {
+            show_failure(rt, "standard input", e);
+            stopped(bench)
+        }
+        Ok(0) => {
+            take_end(rt, bench.gathering);
+            stopped(bench)
+        }
+        Ok(count) => take_lines(rt, bench, bytes, line, &input[..count], buffer),
     }
-    if got == 0 {
-        take_end(bench.gathering);
-    }
-    if got < 1 {
-        return stopped(bench);
-    }
-    let count = io::count(got, input);
-    take_lines(bench, bytes, line, &input[..count], buffer)
 }
 
 // Reads and plays until the program ends. A proved loop has to end, and nothing says that an input does: the turns count down from a number
 // that no run uses up. Precondition: the buffer is at least as long as that of the line; `play_standard_input` lends such buffers.
-fn read_all(bytes: &mut [u8], line: &mut [u8], input: &mut [u8], buffer: &mut [u8])
+fn read_all(
+    rt: &HostRuntime,
+    bytes: &mut [u8],
+    line: &mut [u8],
+    input: &mut [u8],
+    buffer: &mut [u8],
+)
     requires { length line.old ≤ length buffer.old }
 {
     let mut bench = first_bench();
@@ -72,16 +80,16 @@ fn read_all(bytes: &mut [u8], line: &mut [u8], input: &mut [u8], buffer: &mut [u
         if !gathering.goes_on {
             return;
         }
-        bench = read_some(bench, bytes, line, input, buffer);
+        bench = read_some(rt, bench, bytes, line, input, buffer);
         turns -= 1;
     }
 }
 
 // Plays the script that standard input has.
-pub fn play_standard_input() {
+pub fn play_standard_input(rt: &HostRuntime) {
     let mut bytes = store_bytes();
     let mut line = line_bytes();
-    let mut input = io::large_buffer();
+    let mut input = [0u8; 65536];
     let mut buffer = line_bytes();
-    read_all(&mut bytes, &mut line, &mut input, &mut buffer);
+    read_all(rt, &mut bytes, &mut line, &mut input, &mut buffer);
 }

@@ -12,6 +12,7 @@ use script_calls::play::play;
 // handed to `play` from here, and not through functions that only hand it on: each would copy the State for each line. Precondition: the
 // buffer is at least as long as that of the line; `play_standard_input` lends such buffers.
 pub fn take_lines(
+    rt: &HostRuntime,
     bench: Bench,
     bytes: &mut [u8],
     line: &mut [u8],
@@ -40,7 +41,7 @@ pub fn take_lines(
         let played = play(kept, bytes, &line[..ended.text], read, buffer);
         kept = played.kept;
         let answer = played.answer;
-        let is_written = show_line_answer(answer, kept, bytes, read, &line[..ended.count], buffer);
+        let is_written = show_line_answer(rt, answer, kept, bytes, read, &line[..ended.count], buffer);
         gathering = new_line(is_written);
         at = part.end;
     }
@@ -48,9 +49,9 @@ pub fn take_lines(
 }
 
 // Answers a line without LF at the end of the input: it is `unknown`.
-pub fn take_end(gathering: Gathering) {
+pub fn take_end(rt: &HostRuntime, gathering: Gathering) {
     let gathered = gathering.gathered;
     if gathered.is_too_long | (0 < gathered.count) {
-        show_unknown();
+        show_unknown(rt);
     }
 }

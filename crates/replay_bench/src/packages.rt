@@ -7,7 +7,7 @@ use reading_reply::ReadingReply;
 use script_answers::named::put_record;
 
 // Writes a record.
-fn show_record(record: Record) -> bool {
+fn show_record(rt: &HostRuntime, record: Record) -> bool {
     let mut line = [0u8; 44];
     let end = put_record(
         &mut line,
@@ -16,18 +16,18 @@ fn show_record(record: Record) -> bool {
         record.received,
         record.state,
     );
-    show_text(&line[..end])
+    show_text(rt, &line[..end])
 }
 
 // Writes the first records of a list, so many as are asked for, and at most all.
-fn show_records(list: [Record; LIST_MOST], count: usize) -> bool {
+fn show_records(rt: &HostRuntime, list: [Record; LIST_MOST], count: usize) -> bool {
     let mut i = 0;
     while i < LIST_MOST {
         if count <= i {
             return true;
         }
         let record = list[i];
-        if !show_record(record) {
+        if !show_record(rt, record) {
             return false;
         }
         i += 1;
@@ -36,9 +36,9 @@ fn show_records(list: [Record; LIST_MOST], count: usize) -> bool {
 }
 
 // Writes the reply, and the records where there are some.
-pub fn show_packages(report: PackagesByValue) -> bool {
+pub fn show_packages(rt: &HostRuntime, report: PackagesByValue) -> bool {
     let reply = report.answer;
-    let is_written = show_reply(b"packages ", reply);
+    let is_written = show_reply(rt, b"packages ", reply);
     let ReadingReply::Given(n) = reply else {
         return is_written;
     };
@@ -46,5 +46,5 @@ pub fn show_packages(report: PackagesByValue) -> bool {
         return false;
     }
     let list = report.list;
-    show_records(list, n)
+    show_records(rt, list, n)
 }

@@ -26,19 +26,19 @@ fn in_32_bits(n: usize) -> u32 {
 
 // Writes the reply of a reading call: a refusal, or its number by a name. Precondition: the name has at most 20 bytes; each caller gives a
 // literal that is shorter.
-pub fn show_reply(name: &[u8], reply: ReadingReply) -> bool
+pub fn show_reply(rt: &HostRuntime, name: &[u8], reply: ReadingReply) -> bool
     requires { length name.now ≤ 20 }
 {
     match reply {
-        ReadingReply::Refused(number) => show_answer(Answer::Refused(number)),
-        ReadingReply::ShortBuffer(needed) => show_number(b"refused 19 ", in_32_bits(needed)),
-        ReadingReply::Given(n) => show_number(name, in_32_bits(n)),
+        ReadingReply::Refused(number) => show_answer(rt, Answer::Refused(number)),
+        ReadingReply::ShortBuffer(needed) => show_number(rt, b"refused 19 ", in_32_bits(needed)),
+        ReadingReply::Given(n) => show_number(rt, name, in_32_bits(n)),
     }
 }
 
 // Writes the reply of a report, and the bytes that the report wrote.
-fn show_report(reply: ReadingReply, buffer: &[u8]) -> bool {
-    let is_written = show_reply(b"bytes ", reply);
+fn show_report(rt: &HostRuntime, reply: ReadingReply, buffer: &[u8]) -> bool {
+    let is_written = show_reply(rt, b"bytes ", reply);
     let ReadingReply::Given(n) = reply else {
         return is_written;
     };
@@ -48,36 +48,42 @@ fn show_report(reply: ReadingReply, buffer: &[u8]) -> bool {
     if buffer.len() < n {
         return false;
     }
-    show_text(&buffer[..n])
+    show_text(rt, &buffer[..n])
 }
 
 // Makes ClusterInfo into the first bytes of a buffer, so many as the line says, and at most all.
-fn clusters_line(s: State, store: &[u8], room: u32, buffer: &mut [u8]) -> bool {
+fn clusters_line(rt: &HostRuntime, s: State, store: &[u8], room: u32, buffer: &mut [u8]) -> bool {
     let count = lent(room as usize, buffer.len());
     let reply = cluster_info(s, store, &mut buffer[..count]);
-    show_report(reply, buffer)
+    show_report(rt, reply, buffer)
 }
 
 // Makes ChangeInfo into the first bytes of a buffer, likewise.
-fn changes_line(s: State, store: &[u8], room: u32, buffer: &mut [u8]) -> bool {
+fn changes_line(rt: &HostRuntime, s: State, store: &[u8], room: u32, buffer: &mut [u8]) -> bool {
     let count = lent(room as usize, buffer.len());
     let reply = change_info(s, store, &mut buffer[..count]);
-    show_report(reply, buffer)
+    show_report(rt, reply, buffer)
 }
 
 // Answers a line of a reading call or of the old status, or one that shows the manager's state or the store. Any other is `unknown`.
-pub fn reading_line(s: State, store: &[u8], line: ScriptLine, buffer: &mut [u8]) -> bool {
+pub fn reading_line(
+    rt: &HostRuntime,
+    s: State,
+    store: &[u8],
+    line: ScriptLine,
+    buffer: &mut [u8],
+) -> bool {
     match line {
-        ScriptLine::Packages { room } => show_packages(packages_by_value(s, store, room as usize)),
-        ScriptLine::Clusters { room } => clusters_line(s, store, room, buffer),
-        ScriptLine::Changes { room } => changes_line(s, store, room, buffer),
-        ScriptLine::Waves { room } => waves_line(s, store, room),
-        ScriptLine::Payload { id } => show_bytes(b"payload ", payload(s, store, id)),
-        ScriptLine::Check { id } => show_number(b"check ", payload_check(s, store, id)),
-        ScriptLine::Progress => show_reply(b"progress ", progress(s, store)),
-        ScriptLine::OldStatus => show_number(b"old ", status(s, store) as u32),
-        ScriptLine::State => show_state(s, store),
-        ScriptLine::Store => show_bytes(b"store ", store),
-        _ => show_unknown(),
+        ScriptLine::Packages { room } => show_packages(rt, packages_by_value(s, store, room as usize)),
+        ScriptLine::Clusters { room } => clusters_line(rt, s, store, room, buffer),
+        ScriptLine::Changes { room } => changes_line(rt, s, store, room, buffer),
+        ScriptLine::Waves { room } => waves_line(rt, s, store, room),
+        ScriptLine::Payload { id } => show_bytes(rt, b"payload ", payload(s, store, id)),
+        ScriptLine::Check { id } => show_number(rt, b"check ", payload_check(s, store, id)),
+        ScriptLine::Progress => show_reply(rt, b"progress ", progress(s, store)),
+        ScriptLine::OldStatus => show_number(rt, b"old ", status(s, store) as u32),
+        ScriptLine::State => show_state(rt, s, store),
+        ScriptLine::Store => show_bytes(rt, b"store ", store),
+        _ => show_unknown(rt),
     }
 }

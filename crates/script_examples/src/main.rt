@@ -2,6 +2,6 @@
 // every state with the old calls, whole sessions, damaged packages and the start waves. The file stdout is what an independent reading of
 // document 01 and of the changes to it answers.
 #![tactic(auto)]
-fn main() {
-    replay_bench::play_standard_input();
+fn main(rt: HostRuntime) {
+    replay_bench::play_standard_input(&rt);
 }

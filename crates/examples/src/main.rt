@@ -1,6 +1,7 @@
 // Exercises the functions on good and damaged input and prints what each gives. The cases are data: the file stdin beside src/ has
 // them, in the form that `case` says, and the file stdout what must be printed, written from document 01.
 #![tactic(auto)]
+
 mod comparisons;
 mod kinds;
 mod lists;

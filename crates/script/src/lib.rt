@@ -1,5 +1,6 @@
 // The lines of the program `replay`: gathered from the input, their words and numbers, and the place of a line's bytes.
 #![tactic(auto)]
+
 mod fixed;
 pub mod gathered;
 pub mod limits;

@@ -1,0 +1,16 @@
+-- `script::fixed::report_line` meets its contract: one word after the other. Assumes nothing.
+use Rattle.base.proofs.Ladder.{told-ladder}
+use Rattle.script.specs.Line.{report_line}
+use Rattle.script.proofs.fixed.report_line.Goals as goal
+
+pub returns-then-is_word : goal.returns-then-is_word
+unfolding report_line
+returns-then-is_word c = search told-ladder depth 9
+
+pub returns-then-is_word-2 : goal.returns-then-is_word-2
+unfolding report_line
+returns-then-is_word-2 c = search told-ladder depth 9
+
+pub returns : goal.returns
+unfolding report_line
+returns c = search told-ladder depth 9

@@ -1,0 +1,20 @@
+-- `script::numbered::transfer_line` meets its contract: one word after the other. Assumes nothing.
+use Rattle.base.proofs.Ladder.{told-ladder}
+use Rattle.script.specs.Line.{transfer_line}
+use Rattle.script.proofs.numbered.transfer_line.Goals as goal
+
+pub returns-then-is_word : goal.returns-then-is_word
+unfolding transfer_line
+returns-then-is_word c = search told-ladder depth 9
+
+pub returns-then-is_word-2 : goal.returns-then-is_word-2
+unfolding transfer_line
+returns-then-is_word-2 c = search told-ladder depth 9
+
+pub returns-then-is_word-3 : goal.returns-then-is_word-3
+unfolding transfer_line
+returns-then-is_word-3 c = search told-ladder depth 9
+
+pub returns : goal.returns
+unfolding transfer_line
+returns c = search told-ladder depth 9

@@ -1,6 +1,6 @@
 -- What is printed of an input: by whether Load refuses it, and by what Load and ClusterInfo give in code. Assumes nothing.
 use Prim.Native.Nat.{ℕ, ◌≤◌}
-use mathlib.Core.Path.{◌≡◌, refl, sym, ap, subst, ◌∙◌}
+use mathlib.Core.Path.{◌≡◌, refl, sym, ap, ◌∙◌}
 use mathlib.Core.Bool.{true, false}
 use mathlib.Core.List.{List, [], ◌∷◌, ◌++◌}
 use native.Mathlib.Nat.{zero-add}
@@ -8,8 +8,6 @@ use native.Mathlib.Omega.{arith}
 use lib.Dec.{lit≤}
 use lib.ListN.{length, drop}
 use lib.Seq.{sets-eq}
-use denote.Enum.Declared.{tag_of}
-use types.Run.{OneOf, miss}
 use Rattle.base.specs.Quoted.{bytes, LF}
 use Rattle.base.proofs.Tests.{bool_cases}
 use Rattle.text.specs.Digits.{digits, digits_in}
@@ -40,7 +38,6 @@ use Rattle.reading_reply.specs.declared.ReadingReply.{ReadingReply}
 use Rattle.reading_reply.specs.declared.ReadingReply.TheVariants.{Refused as RefusedReport, ShortBuffer, Given}
 use Rattle.reading_reply.specs.Reply as report
 use Rattle.reading_reply.specs.Reply.{view_report}
-use Rattle.reading_reply.specs.contracts.ReadingReply as reading-reply
 use Rattle.clist.specs.Answer.{printed, first_id, answer_to}
 
 -- ---- by whether Load refuses the input
@@ -102,9 +99,8 @@ module _ (s : model.State) (store : Store) (ok : sound s store ≡ true) (old ne
       }
 
   -- what the code's `else` knows does not come about
-  not-else : {X : Type 0} → OneOf (0 ∷ 1 ∷ []) (tag_of reading-reply.the_type r) → X
-  not-else other =
-      absurd (miss (0 ∷ 1 ∷ []) 2 tt (subst (λ (x : ReadingReply). OneOf (0 ∷ 1 ∷ []) (tag_of reading-reply.the_type x)) is-given other))
+  not-else : {X : Type 0} → ((count : ℕ) → r ≡ Given count → ⊥) → X
+  not-else other = absurd (other _ is-given)
 
 -- ---- Load in code: it answers Done or refuses by 20
 
@@ -143,5 +139,5 @@ module _ (input : List ℕ) (s : State) (r : Answered) (after : Store)
         is-printed given ∙ ap (λ (a : Answer). printed (reply_of a) (view_state r.state)) done-told in
         rw is (info-put (view_state r.state) after is-sound old new room info meaning count e)
 
-    pub never-else : {X : Type 0} → OneOf (0 ∷ 1 ∷ []) (tag_of reading-reply.the_type info) → X
+    pub never-else : {X : Type 0} → ((count : ℕ) → info ≡ Given count → ⊥) → X
     never-else = not-else (view_state r.state) after is-sound old new room info meaning

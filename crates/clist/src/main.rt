@@ -1,6 +1,7 @@
 // Loads a cluster list from standard input with first transfer id 1 and prints ClusterInfo, or `refused 20`. Where a read or a write fails,
 // standard error says why; a read that fails is answered by nothing on standard output.
 #![tactic(auto)]
+
 mod input;
 mod print;
 

@@ -3,8 +3,6 @@
 use Prim.Native.Nat.{◌-◌, ◌≤◌}
 use mathlib.Core.Path.{◌≡◌}
 use lib.ListN.{length}
-use borrow.Author.Rules.{rules}
-use Rattle.clist.proofs.InputLaws.{part-one, part-inside, part_length, counts-read}
 use Rattle.clist.proofs.input.read_parts.Given as goal
 
 abbrev pub invariant-loop-done : goal.invariant-loop-done

@@ -12,7 +12,6 @@ use Rattle.model.specs.State.{Store}
 use Rattle.model.specs.Calls.{Call, transfer_data}
 use Rattle.model.specs.Layers.{EventOutcome}
 use Rattle.state.specs.declared.state.State.{State}
-use Rattle.state.specs.declared.answer.Answer.{Answer}
 use Rattle.state.specs.declared.answer.Answer.TheVariants.{Done}
 use Rattle.state.specs.declared.answer.Answered.{Answered}
 use Rattle.state.specs.Outcome.{Outcome, outcome}

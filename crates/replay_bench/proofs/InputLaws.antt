@@ -11,7 +11,7 @@ use lib.Seq.{take_all, drop-drop, drop-length}
 use borrow.Author.Tests.{not-true, not-false, lt-ltb, le-ltb, ltb-true}
 use Rattle.base.specs.Quoted.{LF}
 use Rattle.base.proofs.Tests.{bool_cases, clash}
-use Rattle.bytes.specs.Bytes.{index_of, index_after, slice}
+use Rattle.byte_search.specs.Bytes.{index_of, index_after, slice}
 use Rattle.model.specs.State.{Store}
 use Rattle.script.specs.declared.gathered.Gathered.{Gathered}
 use Rattle.script.specs.Gathered.{line_so_far, with_part, gathered_with}

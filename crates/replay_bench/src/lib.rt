@@ -2,6 +2,7 @@
 // standard output. Each line is answered before more is read. It ends at the end of the input, or where a read or a write
 // fails: standard error then says why.
 #![tactic(auto)]
+
 mod answer;
 mod bench;
 mod gather;

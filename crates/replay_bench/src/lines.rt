@@ -41,7 +41,15 @@ pub fn take_lines(
         let played = play(kept, bytes, &line[..ended.text], read, buffer);
         kept = played.kept;
         let answer = played.answer;
-        let is_written = show_line_answer(rt, answer, kept, bytes, read, &line[..ended.count], buffer);
+        let is_written = show_line_answer(
+            rt,
+            answer,
+            kept,
+            bytes,
+            read,
+            &line[..ended.count],
+            buffer,
+        );
         gathering = new_line(is_written);
         at = part.end;
     }

@@ -74,7 +74,10 @@ pub fn reading_line(
     buffer: &mut [u8],
 ) -> bool {
     match line {
-        ScriptLine::Packages { room } => show_packages(rt, packages_by_value(s, store, room as usize)),
+        ScriptLine::Packages { room } => show_packages(
+            rt,
+            packages_by_value(s, store, room as usize),
+        ),
         ScriptLine::Clusters { room } => clusters_line(rt, s, store, room, buffer),
         ScriptLine::Changes { room } => changes_line(rt, s, store, room, buffer),
         ScriptLine::Waves { room } => waves_line(rt, s, store, room),

@@ -24,7 +24,13 @@ use transfer_start::transfer_start;
 use work_on_payload::work;
 
 // Makes a call that is neither Load nor a transfer call, by its place among the sentences.
-fn make_session_call(rt: &HostRuntime, s: State, store: &mut [u8], first: u32, kind: usize) -> io::Result<State> {
+fn make_session_call(
+    rt: &HostRuntime,
+    s: State,
+    store: &mut [u8],
+    first: u32,
+    kind: usize,
+) -> io::Result<State> {
     match kind {
         5 => show_answer(rt, process(s, store, first)),
         6 => show_answer(rt, work(s, store, first)),
@@ -40,12 +46,21 @@ fn make_session_call(rt: &HostRuntime, s: State, store: &mut [u8], first: u32, k
 }
 
 // Makes a call by its place among the sentences.
-fn make_call(rt: &HostRuntime, s: State, store: &mut [u8], case: &[u8], kind: usize) -> io::Result<State> {
+fn make_call(
+    rt: &HostRuntime,
+    s: State,
+    store: &mut [u8],
+    case: &[u8],
+    kind: usize,
+) -> io::Result<State> {
     let first = number_of(field(case, 1));
     match kind {
         0 => show_answer(rt, load(s, field(case, 2), first, store)),
         1 => show_answer(rt, transfer_start(s, store, first)),
-        2 => show_answer(rt, transfer_data(s, store, first, number_of(field(case, 2)), field(case, 3))),
+        2 => show_answer(
+            rt,
+            transfer_data(s, store, first, number_of(field(case, 2)), field(case, 3)),
+        ),
         3 => show_answer(rt, transfer_exit(s, store, first)),
         4 => show_answer(rt, delete_transfer(s, store, first)),
         _ => make_session_call(rt, s, store, first, kind),
@@ -85,7 +100,13 @@ fn show_store(rt: &HostRuntime, store: &[u8]) -> io::Result<()> {
 }
 
 // Plays a case that leaves the state as it is.
-fn show_case(rt: &HostRuntime, s: State, store: &mut [u8], case: &[u8], kind: usize) -> io::Result<()> {
+fn show_case(
+    rt: &HostRuntime,
+    s: State,
+    store: &mut [u8],
+    case: &[u8],
+    kind: usize,
+) -> io::Result<()> {
     match kind {
         18 => show_payload(rt, s, store, number_of(field(case, 1))),
         19 => show_store(rt, store),

@@ -1,6 +1,7 @@
 // Exercises the calls: each case is a call on the state and the store that the one before left. The file stdin beside src/ has the cases,
 // in the form that `cases::case` says, and the file stdout what must be printed, written from document 01.
 #![tactic(auto)]
+
 mod answers;
 mod calls;
 mod marks;

@@ -17,7 +17,13 @@ fn show_old(rt: &HostRuntime, r: OldAnswered) -> io::Result<State> {
 }
 
 // Makes an old call by its place among the sentences.
-pub fn make_old_call(rt: &HostRuntime, s: State, store: &[u8], id: u32, kind: usize) -> io::Result<State> {
+pub fn make_old_call(
+    rt: &HostRuntime,
+    s: State,
+    store: &[u8],
+    id: u32,
+    kind: usize,
+) -> io::Result<State> {
     match kind {
         14 => show_old(rt, activate(s, store)),
         15 => show_old(rt, cancel(s, store, id)),

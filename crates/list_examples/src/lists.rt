@@ -30,7 +30,12 @@ fn run_list(case: &[u8], words: &[u32], store: &mut [u8], answers: &mut [u32]) -
 }
 
 // Prints the answers of a list that was made, and the state then; or why none was made.
-fn show_replied(rt: &HostRuntime, list: RepliedList, answers: &[u32], count: usize) -> io::Result<()> {
+fn show_replied(
+    rt: &HostRuntime,
+    list: RepliedList,
+    answers: &[u32],
+    count: usize,
+) -> io::Result<()> {
     let reply = list.reply;
     match reply {
         ListReply::Made => {

@@ -2,6 +2,7 @@
 // cases, in the form that `cases::case` says, and the file stdout what must be printed, written from document 01 and from the table of what
 // the old calls answer.
 #![tactic(auto)]
+
 mod answers;
 mod lists;
 mod words;

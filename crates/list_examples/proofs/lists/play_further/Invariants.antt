@@ -1,0 +1,11 @@
+-- `list_examples::lists::play_further` is safe. The invariant says nothing; the measure is what is left of the further calls. Assumes
+-- nothing.
+use Prim.Native.Nat.{◌-◌}
+use lib.ListN.{length}
+use Rattle.list_examples.proofs.lists.play_further.Given as goal
+
+abbrev pub invariant-loop-at : goal.invariant-loop-at
+invariant-loop-at l = Unit {0}
+
+abbrev pub decreases-loop-at : goal.decreases-loop-at
+decreases-loop-at l = length l.further - l.at

@@ -40,9 +40,9 @@ def crates_of(text):
             if line in groups:
                 refuse(number, "this heading was given before")
             groups.append(line)
-        name, _, libraries = line.split("#")[0].partition(":")
-        name = name.strip()
-        if name:
+        head, _, libraries = line.split("#")[0].partition(":")
+        if words := head.split():  # the name, and then what kind of crate it is
+            name = words[0]
             if not groups:
                 refuse(number, f"{name} is listed before the first heading")
             crates[name] = Crate(groups[-1][3:], number, libraries.split())

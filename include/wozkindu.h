@@ -1,6 +1,6 @@
 /* Wozkindu, the package manager of a reach truck's onboard computer: what a program in C or C++ calls.
 
-   The archive target/staticlib/libc_interface.a has what is declared here: `rt staticlib c_interface` proves and builds it, for x86-64.
+   The archive target/staticlib/libc_interface.a has what is declared here: `rt lib` in crates/c_interface_c proves and builds it, for x86-64.
    examples/c/run builds and runs a program with it. docs/INTEGRATION.md, "Linking from C", says more; docs/CALL-LISTS.md explains lists
    of calls, docs/REFUSALS.md the refusals. */
 #ifndef WOZKINDU_H

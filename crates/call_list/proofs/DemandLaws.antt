@@ -35,7 +35,7 @@ use Rattle.manager.proofs.CallLaws.{view-accepts}
 use Rattle.manager.proofs.ShapeKept.{step-shaped}
 use Rattle.four_state.specs.declared.call.OldCall.{OldCall}
 use Rattle.four_state.specs.OldCalls.{twelve_of, old_answers}
-use Rattle.four_state.specs.Exact.{exact_begun_unless}
+use Rattle.four_state.specs.Exact.{exact_begun_unless, exact_old_step}
 use Rattle.four_state.specs.MixedLists.{MixedCall, of_twelve, of_four, by_twelve, by_four, mixed_step, mixed_run}
 use Rattle.four_state.proofs.MixedLists.{mixed-demand-from}
 use Rattle.four_state.proofs.OldWays.{view-old}
@@ -55,14 +55,26 @@ module _ (s : State) (store : Store) (shape : Shaped s) where
   old-shaped call none = step-shaped s store shape (twelve_of call)
   old-shaped call (some number) = shape
 
+-- an old call's answer, state and store stand in a list of both kinds as they are
+exact-four : (s : State) (store : Store) (call : OldCall)
+    → (let o = exact_old_step s store call in exact_mixed_step s store (of_four call) ≡ event_outcome (by_four o.answer) o.state o.store)
+unfolding exact_mixed_step
+exact-four s store call = refl
+
+seen-four : (s : State) (store : Store) (call : OldCall)
+    → view_outcome_by view_state (exact_mixed_step s store (of_four call)) ≡ mixed_step (view_state s) store (of_four call)
+unfolding mixed_step
+seen-four s store call =
+    ap (view_outcome_by view_state) (exact-four s store call)
+    ∙ ap (λ (o : EventOutcome model.State ℕ). event_outcome (by_four o.answer) o.state o.store) (view-old s store call)
+
 seen-mixed : (s : State) (store : Store) (call : MixedCall) → Shaped s
     → view_outcome_by view_state (exact_mixed_step s store call) ≡ mixed_step (view_state s) store call
 unfolding exact_mixed_step mixed_step
 seen-mixed s store (of_twelve call) shape =
     ap (λ (o : step.Outcome). event_outcome (by_twelve o.reply) o.state o.store) (seen_step s store shape call)
 seen-mixed s store (of_four call) shape =
-    ap (λ (o : EventOutcome model.State ℕ). event_outcome (by_four o.answer) o.state o.store)
-    (view-old s store call)
+    seen-four s store call
 
 mixed-shaped : (s : State) (store : Store) (call : MixedCall) → Shaped s → Shaped (exact_mixed_step s store call).state
 unfolding exact_mixed_step

@@ -1,8 +1,8 @@
 /* Wozkindu, the package manager of a reach truck's onboard computer: what a program in C or C++ calls.
 
-   The archive target/staticlib/libc_interface.a has what is declared here: `rt lib` in crates/c_interface_c proves and builds it, for x86-64.
-   examples/c/run builds and runs a program with it. docs/INTEGRATION.md, "Linking from C", says more; docs/CALL-LISTS.md explains lists
-   of calls, docs/REFUSALS.md the refusals. */
+   The archive target/staticlib/libc_interface.a has what is declared here, for x86-64: examples/c/run proves it, builds it and puts it
+   there, and builds and runs a program with it. docs/INTEGRATION.md, "Linking from C", says more; docs/CALL-LISTS.md explains lists of
+   calls, docs/REFUSALS.md the refusals. */
 #ifndef WOZKINDU_H
 #define WOZKINDU_H
 

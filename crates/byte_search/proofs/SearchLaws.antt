@@ -1,4 +1,4 @@
--- Shows: what the first index of a byte is where the first byte is known. Assumes nothing.
+-- The first place of a byte where the first byte is known. Assumes nothing.
 use Rattle.std.proofs.Common.{ℕ, ◌+◌, ◌<◌, ◌≤◌, ◌≡◌, true, false, List, length, arith}
 use lib.Dec.{eqb}
 use lib.ListN.{get_or}

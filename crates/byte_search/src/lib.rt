@@ -1,11 +1,11 @@
-// Finds a byte in a slice.
+// The search of a byte in a part of a slice.
 #![tactic(auto)]
 
 ghost use Rattle.std.specs.Prelude.{◌≡◌, ◌+◌, ◌≤◌, length};
 ghost use Rattle.byte_search.specs.Bytes.{index_of, slice};
 
-// Returns the index of the first byte b of s in [from, to), or to if there is none.
-// Precondition: from ≤ to ≤ s.len(): callers search from an index within s to its end.
+// Finds the first byte b of s from `from` on and before `to`, and gives `to` where there is none. Precondition: `from` is at most `to`, and
+// `to` within s; each caller searches from a place within s to its end.
 pub fn find(s: &[u8], from: usize, to: usize, b: u8) -> usize
     requires ordered { from ≤ to }
     requires within { to ≤ length s.now }

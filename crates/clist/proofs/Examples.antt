@@ -1,5 +1,5 @@
 -- What is printed of document 01's list, as document 01 prints it, and of two inputs that are no list, by computation. What is read of
--- an input that fits a buffer, and of one that does not. Assumes nothing.
+-- an input that fits a buffer, and of one that does not; and what one read gave. Assumes nothing.
 use Prim.Native.Nat.{ℕ, ◌≤◌}
 use mathlib.Core.Path.{◌≡◌, refl, sym}
 use Prim.Native.String.{String}
@@ -9,7 +9,12 @@ use lib.Seq.{take_all}
 use Rattle.base.specs.Quoted.{bytes, LF}
 use Rattle.model.specs.State.{State}
 use Rattle.model.proofs.examples.Open.{computing}
+use Rattle.std.specs.Prelude.{Ok, Err, Result}
+use Rattle.std.specs.declared.io.Error.{Error}
+use Rattle.base.proofs.Tables.{◌gives◌, AllHold}
+use Rattle.clist.specs.declared.input.PartRead.TheVariants.{Bytes, Ended, Failed}
 use Rattle.clist.specs.Answer.{answer_to, ReadInto}
+use Rattle.clist.specs.Input.{part_read}
 
 abbrev line : String → List ℕ → List ℕ
 line text rest = bytes text ++ (LF ∷ rest)
@@ -34,3 +39,9 @@ module _ (room : ℕ) (input : List ℕ) where
 
   the-first-are-read : ReadInto room input (take room input)
   the-first-are-read = refl
+
+-- what a read into a buffer of 4 bytes answered: an error, the end, and counts at both ends and above
+module _ (e : Error) where
+  reads : AllHold (λ (got : Result ℕ Error). part_read got 4)
+      (Err e gives Failed e ∷ Ok 0 gives Ended ∷ Ok 1 gives Bytes 1 ∷ Ok 4 gives Bytes 4 ∷ Ok 5 gives Bytes 4 ∷ [])
+  reads = refl

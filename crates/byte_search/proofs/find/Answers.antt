@@ -1,4 +1,4 @@
--- Shows: byte_search::find meets its contract. Assumes nothing.
+-- `byte_search::find` meets its contract: each way out of the loop by its law. Assumes nothing.
 use Rattle.std.proofs.Common.{arith}
 use borrow.Author.Tests.{eq-eqb, ne_eqb}
 use Rattle.byte_search.proofs.SearchLaws.{found, passed, ended}

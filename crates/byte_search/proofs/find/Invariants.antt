@@ -1,5 +1,5 @@
--- Invariant: i is in [from, to], and no index in [from, i) has the byte.
--- Measure: to - i.
+-- The loop's invariant: i is within the part, and the first place of the byte from `from` on is the one from i on. The measure is what is
+-- left of the part.
 use Rattle.std.proofs.Common.{◌-◌, ◌≡◌, ◌+◌, ◌≤◌}
 use Rattle.byte_search.specs.Bytes.{index_of, slice}
 use Rattle.byte_search.proofs.find.Given as goal

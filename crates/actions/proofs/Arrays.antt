@@ -1,42 +1,42 @@
--- Laws of an array's first elements, for any element type: what loops that move up and move down go by, and what stands there
+-- Laws of an array's first elements, for any element type: what moving up and moving down makes of them, and what stands there
 -- after a change, however long the array is. Assumes nothing.
 use Prim.Native.Nat.{ℕ, zero, suc, ◌+◌, ◌-◌, ◌≤◌, ◌<◌, min}
 use mathlib.Core.Path.{◌≡◌, refl, sym, ap, ◌∙◌}
-use mathlib.Core.List.{List, [], ◌∷◌, ◌++◌, map, append-nil, map-append}
+use mathlib.Core.List.{List, [], ◌∷◌, ◌++◌, map, append_assoc, map-append}
 use native.Mathlib.Numerals.{add-one}
 use native.Mathlib.Omega.{arith}
-use lib.ListN.{length, take, drop, get_or, set, length-take, length-append, length-drop, drop_of_length-le}
-use lib.Seq.{take-suc-set, take-set-lt, drop-set-lt, append_snoc, set_split, drop-drop, take-take}
-use Rattle.base.proofs.Counted.{seen_step, seen_end}
+use lib.ListN.{length, take, drop, set, length-take, length-append, length-drop, drop_of_length-le}
+use lib.Seq.{take-set-lt, set_split, take-take}
+use Rattle.std.specs.List.{copy_within}
+use Rattle.std.proofs.lemmas.List.{drop-take, take-append-le, drop-append-le}
 use Rattle.clusters.specs.Exact.{put_at}
 use Rattle.clusters.proofs.Arrays.{set-put, first_of}
 
-module _ {A : Type 0} (xs : List A) (n : ℕ) (le : n ≤ length xs) where
-  take-set-one : (j : ℕ) (x : A) → j < n → take (j + 1) (set xs j x) ≡ take j xs ++ (x ∷ [])
-  take-set-one j x h = rw add-one (take-suc-set xs j x (omega arith))
-
-  -- one step of a move up: x is put at j, and what stood there is carried on
-  pub up_step : (j : ℕ) (x d : A) → j < n → take (j + 1) (set xs j x) ++ get_or xs j d ∷ drop (j + 1) (take n (set xs j x)) ≡ take j xs ++ x ∷ drop j (take n xs)
-  up_step j x d h =
-      rw (seen_step xs n le j d h, take-set-one j x h, take-set-lt n xs j x h, drop-set-lt (j + 1) (take n xs) j x (omega arith)) (simp append_snoc)
-
-  -- one step of a move down: the element behind j is put at j
-  pub down_step : (j : ℕ) (d : A) → j + 1 < n → take (j + 1) (set xs j (get_or xs (j + 1) d)) ++ drop (j + 1 + 1) (take n (set xs j (get_or xs (j + 1) d))) ≡ take j xs ++ drop (j + 1) (take n xs)
-  down_step j d h =
-      let x = get_or xs (j + 1) d in
-      rw (seen_step xs n le (j + 1) d h, take-set-one j x (omega arith), take-set-lt n xs j x (omega arith), drop-set-lt (j + 1 + 1) (take n xs) j x (omega arith)) (simp append_snoc)
-
-  -- its end: nothing stands behind j
-  pub down-end : (j : ℕ) → n ≤ j + 1 → take j xs ++ drop (j + 1) (take n xs) ≡ take j xs
-  down-end j h = rw (seen_end xs n le (j + 1) h) (append-nil (take j xs))
-
 module _ {A : Type 0} where
-  -- a store behind the first n
-  pub set-whole : (xs : List A) (n : ℕ) (x : A) → n < length xs → set xs n x ≡ (take n xs ++ x ∷ drop n (take n xs)) ++ drop (n + 1) xs
-  set-whole xs n x h = set_split xs n x h ∙ rw (seen_end xs n (omega arith) n (omega arith), add-one) (simp append_snoc)
+  -- what stands from i on up to n
+  between : (i n : ℕ) (xs : List A) → i ≤ n → drop i (take n xs) ≡ take (n - i) (drop i xs)
+  between i n xs h = let e : n ≡ i + (n - i) = omega arith in ap (λ (k : ℕ). drop i (take k xs)) e ∙ drop-take i (n - i) xs
 
-  pub drop_more : (xs ys : List A) (n : ℕ) → drop n xs ≡ drop n ys → drop (n + 1) xs ≡ drop (n + 1) ys
-  drop_more xs ys n e = sym (drop-drop 1 n xs) ∙ ap (λ (l : List A). drop 1 l) e ∙ drop-drop 1 n ys
+  -- what stands from i on up to n is copied up by one, and x put at i
+  pub moved-up : (i n : ℕ) (x : A) (xs : List A) → i ≤ n → n < length xs
+      → set (copy_within xs i n (i + 1)) i x ≡ (take i xs ++ x ∷ drop i (take n xs)) ++ drop (n + 1) xs
+  moved-up i n x xs h l =
+      let head = take (i + 1) xs in
+      let rest = take (n - i) (drop i xs) ++ drop (i + 1 + (n - i)) xs in
+      let long : length head ≡ i + 1 = simp length-take (omega arith) in
+      let first : take i (head ++ rest) ≡ take i xs = take-append-le i head rest (omega arith) ∙ take-take i (i + 1) xs (omega arith) in
+      let behind : drop (i + 1) (head ++ rest) ≡ rest = drop-append-le (i + 1) head rest (omega arith) ∙ ap (λ (l : List A). l ++ rest) (drop_of_length-le head {i = i + 1} (omega arith)) in
+      let end : i + 1 + (n - i) ≡ n + 1 = omega arith in
+      let parts : set (head ++ rest) i x ≡ take i (head ++ rest) ++ x ∷ drop (i + 1) (head ++ rest) =
+      set_split (head ++ rest) i x (omega (arith, length-append head rest)) ∙ ap (λ (k : ℕ). take i (head ++ rest) ++ x ∷ drop k (head ++ rest)) (sym (add-one i)) in
+      ap (λ (l : List A). set l i x) (append_assoc head (take (n - i) (drop i xs)) (drop (i + 1 + (n - i)) xs)) ∙ parts
+      ∙ rw (first, behind, end, between i n xs h) (sym (append_assoc (take i xs) (x ∷ take (n - i) (drop i xs)) (drop (n + 1) xs)))
+
+  -- what stands behind i up to n is copied down by one
+  pub moved-down : (i n : ℕ) (xs : List A) → i < n → copy_within xs (i + 1) n i ≡ (take i xs ++ drop (i + 1) (take n xs)) ++ drop (n - 1) xs
+  moved-down i n xs h =
+      let end : i + (n - (i + 1)) ≡ n - 1 = omega arith in
+      rw (between (i + 1) n xs (omega arith), end)
 
   -- ---- the first elements after a change
 

@@ -12,7 +12,8 @@ use lib.ListN.{length, take, drop, get_or}
 use borrow.Author.Tests.{eqb-true}
 use Rattle.base.proofs.Tests.{bool_cases, none-some}
 use Rattle.clusters.specs.declared.cluster.Cluster.{Cluster as ClusterStruct}
-use Rattle.place_in_list.specs.declared.Found.TheVariants.{At}
+use Rattle.std.specs.Prelude.{Some, unwrap_or}
+use Rattle.std.specs.List.{position_from}
 use Rattle.place_in_list.proofs.Placed.{holds-at-place}
 use Rattle.clusters.specs.Cluster.{Cluster, with_mark}
 use Rattle.clusters.specs.Table.{Table, find, rising_above}
@@ -66,7 +67,7 @@ changed-further part x t i z p = record {
   taken_out = λ last h. rw (z, drop-one-more i x t) (ap (λ (l : Table). x ∷ l) (p.taken_out x.part (rising-says last x t h).rest));
 }
 
-pub changed-at : (part : ℕ) (t : Table) (i : ℕ) → place_of part t ≡ At i → ChangedAt part t i
+pub changed-at : (part : ℕ) (t : Table) (i : ℕ) → place_of part t ≡ Some i → ChangedAt part t i
 changed-at part t i e = holds-at-place (has_part part) (ChangedAt part) (changed-first part) (changed-further part) t i e
 
 -- ---- the place for one more cluster
@@ -80,6 +81,15 @@ insert-place-from i part (x ∷ t) = go (ltb part x.part) (insert-place-from (i 
         → cond b i (insert_place_from (i + 1) part t) ≡ i + cond b 0 (insert_place_from 1 part t)
     go true e f = omega arith
     go false e f = omega arith
+
+-- the place of the first with a larger part number, and the place behind all where there is none
+pub insert-place-is : (i part : ℕ) (t : Table) → unwrap_or (position_from (λ (c : Cluster). ltb part c.part) i t) (i + length t) ≡ insert_place_from i part t
+unfolding insert_place_from
+insert-place-is i part [] = omega arith
+insert-place-is i part (c ∷ t) =
+    let ih = insert-place-is (i + 1) part t in
+    let e : i + length (c ∷ t) ≡ i + 1 + length t = omega arith in
+    bool_cases (ltb part c.part) (λ z. rw z) λ z. rw (z, e) ih
 
 pub insert-place-low : (part : ℕ) (t : Table) → insert_place_from 0 part t ≤ length t
 unfolding insert_place_from

@@ -12,8 +12,8 @@ use Rattle.base.proofs.Tests.{bool_cases, cond-true}
 use Rattle.base.proofs.Counted.{counted-few}
 use Rattle.clusters.specs.declared.cluster.Cluster.{Cluster as ClusterStruct}
 use Rattle.clusters.specs.declared.table.Table.{Table as TableStruct}
-use Rattle.place_in_list.specs.declared.Found.{Found}
-use Rattle.place_in_list.specs.declared.Found.TheVariants.{At, Nothing}
+use Rattle.std.specs.Prelude.{None, Some}
+use Rattle.place_in_list.specs.Place.{Found}
 use Rattle.clusters.specs.Table.{table_within, clusters_most}
 use Rattle.clusters.specs.View.{no_cluster, view_cluster, view_table}
 use Rattle.clusters.specs.Place.{place_of}
@@ -49,11 +49,11 @@ view-insert c t h =
     ∙ ap (insert (view_cluster c)) (sym (view-few t few))
 
 -- the place that is found, in the first clusters of the struct
-changed-in : (part : ℕ) (t : TableStruct) (i : ℕ) → t.count ≤ clusters_most → place_of part (view_table t) ≡ At i → ChangedAt part (map view_cluster (take t.count t.clusters)) i
+changed-in : (part : ℕ) (t : TableStruct) (i : ℕ) → t.count ≤ clusters_most → place_of part (view_table t) ≡ Some i → ChangedAt part (map view_cluster (take t.count t.clusters)) i
 changed-in part t i few e = let q = view-few t few in changed-at part _ i (rw q at e)
 
 -- the place is one of those that count, and the array has it
-place-below : (part : ℕ) (t : TableStruct) (i : ℕ) → t.count ≤ clusters_most → place_of part (view_table t) ≡ At i → (i < t.count) × (i < length t.clusters)
+place-below : (part : ℕ) (t : TableStruct) (i : ℕ) → t.count ≤ clusters_most → place_of part (view_table t) ≡ Some i → (i < t.count) × (i < length t.clusters)
 place-below part t i few e =
     let q = view-few t few in
     let p : Placed part (view_cluster no_cluster) (map view_cluster (take t.count t.clusters)) i = place-says part _ i _ (rw q at e) in
@@ -79,7 +79,7 @@ view-replace c t h = go (place_of c.part (view_table t)) refl
     seen : List ClusterStruct
     seen = take t.count t.clusters
 
-    at : (i : ℕ) → place_of c.part (view_table t) ≡ At i → view_table (exact.replace_at (At i) c t) ≡ replace (view_cluster c) (view_table t)
+    at : (i : ℕ) → place_of c.part (view_table t) ≡ Some i → view_table (exact.replace_at (Some i) c t) ≡ replace (view_cluster c) (view_table t)
     at i e =
         let b = place-below c.part t i few e in
         let mark = (get_or t.clusters i no_cluster).stays in
@@ -92,8 +92,8 @@ view-replace c t h = go (place_of c.part (view_table t)) refl
         ∙ ap (replace (view_cluster c)) (sym (view-few t few))
 
     go : (f : Found) → place_of c.part (view_table t) ≡ f → view_table (exact.replace_at f c t) ≡ replace (view_cluster c) (view_table t)
-    go (At i) e = at i e
-    go Nothing e = sym (replace_absent (view_cluster c) (view_table t) (nothing-found 0 c.part (view_table t) e))
+    go (Some i) e = at i e
+    go None e = sym (replace_absent (view_cluster c) (view_table t) (nothing-found 0 c.part (view_table t) e))
 
 pub view-take-out : (part : ℕ) (t : TableStruct) → table_within (view_table t) ≡ true → view_table (exact.take_out part t) ≡ take_out part (view_table t)
 unfolding exact.take_out exact.close_gap
@@ -105,7 +105,7 @@ view-take-out part t h = go (place_of part (view_table t)) refl
     seen : List ClusterStruct
     seen = take t.count t.clusters
 
-    at : (i : ℕ) → place_of part (view_table t) ≡ At i → view_table (exact.close_gap i t) ≡ take_out part (view_table t)
+    at : (i : ℕ) → place_of part (view_table t) ≡ Some i → view_table (exact.close_gap i t) ≡ take_out part (view_table t)
     at i e =
         let b = place-below part t i few e in
         ap (map view_cluster) (counted-few clusters_most (t.count - 1) no_cluster _ (omega (arith, few)) ∙ first-close i t.count t.clusters b.0 b.1)
@@ -114,8 +114,8 @@ view-take-out part t h = go (place_of part (view_table t)) refl
         (sym ((changed-in part t i few e).taken_out 0 (rw (view-few t few) at (rising-clusters (view_table t) h))) ∙ ap (take_out part) (sym (view-few t few)))
 
     go : (f : Found) → place_of part (view_table t) ≡ f → view_table (exact.take_out_at f t) ≡ take_out part (view_table t)
-    go (At i) e = at i e
-    go Nothing e = sym (take-out-absent part (view_table t) (nothing-found 0 part (view_table t) e))
+    go (Some i) e = at i e
+    go None e = sym (take-out-absent part (view_table t) (nothing-found 0 part (view_table t) e))
 
 -- ---- actions
 
@@ -155,16 +155,16 @@ module _ (t : TableStruct) (long : length t.clusters ≡ clusters_most) where
   length-replace c few = go (place_of c.part (view_table t)) refl
     where
       go : (f : Found) → place_of c.part (view_table t) ≡ f → length (exact.replace_at f c t).clusters ≡ clusters_most
-      go (At i) e = length-put i (clusters.with_mark c (get_or t.clusters i no_cluster).stays) t.clusters (place-below c.part t i few e).1 ∙ long
-      go Nothing e = long
+      go (Some i) e = length-put i (clusters.with_mark c (get_or t.clusters i no_cluster).stays) t.clusters (place-below c.part t i few e).1 ∙ long
+      go None e = long
 
   length-take-out : (part : ℕ) → t.count ≤ clusters_most → length (exact.take_out part t).clusters ≡ clusters_most
   unfolding exact.take_out exact.close_gap
   length-take-out part few = go (place_of part (view_table t)) refl
     where
       go : (f : Found) → place_of part (view_table t) ≡ f → length (exact.take_out_at f t).clusters ≡ clusters_most
-      go (At i) e = length-close i t.count t.clusters (place-below part t i few e).0 (omega (arith, few, long)) ∙ long
-      go Nothing e = long
+      go (Some i) e = length-close i t.count t.clusters (place-below part t i few e).0 (omega (arith, few, long)) ∙ long
+      go None e = long
 
   pub length-apply : (a : ActionStruct) → length (exact.apply a t).clusters ≡ clusters_most
   unfolding exact.apply

@@ -1,9 +1,8 @@
 -- The tables that the functions give, unused places included. proofs/Views.antt has what they stand for.
-use Rattle.std.specs.Prelude.{ℕ, ◌+◌, ◌-◌, cond, false, ◌∷◌, ◌++◌, leb, take, drop, get_or}
+use Rattle.std.specs.Prelude.{ℕ, ◌+◌, ◌-◌, cond, false, ◌∷◌, ◌++◌, leb, take, drop, get_or, None, Some}
 use Rattle.clusters.specs.declared.cluster.Cluster.{Cluster}
 use Rattle.clusters.specs.declared.table.Table.{Table}
-use Rattle.place_in_list.specs.declared.Found.{Found}
-use Rattle.place_in_list.specs.declared.Found.TheVariants.{At, Nothing}
+use Rattle.place_in_list.specs.Place.{Found}
 use Rattle.clusters.specs.Table.{clusters_most}
 use Rattle.clusters.specs.View.{no_cluster, view_table}
 use Rattle.clusters.specs.Place.{place_of}
@@ -26,8 +25,8 @@ insert c t = insert_at (insert_place_from 0 c.part (view_table t)) c t
 
 -- a cluster in the place that was found, with the mark of the one that stood there
 abbrev pub replace_at : Found → Cluster → Table → Table
-replace_at (At i) c t = record { clusters = put_at i (with_mark c (get_or t.clusters i no_cluster).stays) t.clusters; count = t.count }
-replace_at Nothing c t = t
+replace_at (Some i) c t = record { clusters = put_at i (with_mark c (get_or t.clusters i no_cluster).stays) t.clusters; count = t.count }
+replace_at None c t = t
 
 -- a cluster in the place of the one with its part number
 unfoldable pub replace : Cluster → Table → Table
@@ -42,8 +41,8 @@ close_gap i t = record {
 
 -- the table without the cluster in the place that was found
 abbrev pub take_out_at : Found → Table → Table
-take_out_at (At i) t = close_gap i t
-take_out_at Nothing t = t
+take_out_at (Some i) t = close_gap i t
+take_out_at None t = t
 
 -- the table without the cluster with a part number
 unfoldable pub take_out : ℕ → Table → Table

@@ -8,7 +8,7 @@ use clusters::cluster::{Cluster, new_cluster, with_mark};
 use clusters::table::{CLUSTERS_MOST, Table};
 use text::version::NO_VERSION;
 
-#[derive(Clone, Copy)]
+#[derive(Clone, Copy, PartialEq, Eq)]
 pub enum Change {
     Install,
     Update,

@@ -8,23 +8,16 @@ ghost use Rattle.actions.specs.Exact.{insert_at, insert, replace, close_gap, tak
 
 use clusters::cluster::{Cluster, with_mark};
 use clusters::table::{Table, find};
-use place_in_list::Found;
 
 // Finds the place of the first cluster with a larger part number, or the place behind the last.
 fn insert_place(t: Table, part: u32) -> usize
     requires { t.count ≤ clusters_most }
     ensures { (result ≤ t.count) × (result ≡ insert_place_from 0 part (view_table t)) }
 {
-    let count = t.count;
-    let mut i = 0;
-    while i < count {
-        let c = t.clusters[i];
-        if part < c.part {
-            return i;
-        }
-        i += 1;
-    }
-    i
+    t.clusters[..t.count]
+        .iter()
+        .position(|c| part < c.part)
+        .unwrap_or(t.count)
 }
 
 // Puts a cluster at a place and moves what stood from there on up by one. Precondition: also, the place is not past the count;
@@ -33,20 +26,12 @@ fn insert_at(t: Table, place: usize, c: Cluster) -> Table
     requires { (t.count < clusters_most) × (place ≤ t.count) }
     ensures { result ≡ insert_at place c t }
 {
-    let count = t.count;
     let mut clusters = t.clusters;
-    let mut carried = c;
-    let mut i = place;
-    while i < count {
-        let next = clusters[i];
-        clusters[i] = carried;
-        carried = next;
-        i += 1;
-    }
-    clusters[count] = carried;
+    clusters.copy_within(place..t.count, place + 1);
+    clusters[place] = c;
     Table {
-        clusters: clusters,
-        count: count + 1,
+        clusters,
+        count: t.count + 1,
     }
 }
 
@@ -55,8 +40,7 @@ pub fn insert(t: Table, c: Cluster) -> Table
     requires { t.count < clusters_most }
     ensures { result ≡ insert c t }
 {
-    let place = insert_place(t, c.part);
-    insert_at(t, place, c)
+    insert_at(t, insert_place(t, c.part), c)
 }
 
 // Puts a cluster in the place of the one with its part number, whose mark it keeps.
@@ -64,17 +48,14 @@ pub fn replace(t: Table, c: Cluster) -> Table
     requires { t.count ≤ clusters_most }
     ensures { result ≡ replace c t }
 {
-    let Found::At(place) = find(t, c.part) else {
+    let Some(place) = find(t, c.part) else {
         return t;
     };
     let mut clusters = t.clusters;
     let old = clusters[place];
     let new = with_mark(c, old.stays);
     clusters[place] = new;
-    Table {
-        clusters: clusters,
-        count: t.count,
-    }
+    Table { clusters, ..t }
 }
 
 // Takes out the cluster at a place and moves what stands behind it down by one. Precondition: also, a cluster stands at the place; `find`
@@ -83,17 +64,11 @@ fn close_gap(t: Table, place: usize) -> Table
     requires { (t.count ≤ clusters_most) × (place < t.count) }
     ensures { result ≡ close_gap place t }
 {
-    let count = t.count;
     let mut clusters = t.clusters;
-    let mut i = place;
-    while i + 1 < count {
-        let next = clusters[i + 1];
-        clusters[i] = next;
-        i += 1;
-    }
+    clusters.copy_within(place + 1..t.count, place);
     Table {
-        clusters: clusters,
-        count: count - 1,
+        clusters,
+        count: t.count - 1,
     }
 }
 
@@ -102,7 +77,7 @@ pub fn take_out(t: Table, part: u32) -> Table
     requires { t.count ≤ clusters_most }
     ensures { result ≡ take_out part t }
 {
-    let Found::At(place) = find(t, part) else {
+    let Some(place) = find(t, part) else {
         return t;
     };
     close_gap(t, place)

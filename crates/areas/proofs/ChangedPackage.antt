@@ -7,8 +7,8 @@ use native.Mathlib.Omega.{arith}
 use lib.Dec.{eqb}
 use lib.ListN.{length}
 use Rattle.base.proofs.Tests.{bool_cases}
-use Rattle.place_in_list.specs.declared.Found.{Found}
-use Rattle.place_in_list.specs.declared.Found.TheVariants.{At, Nothing}
+use Rattle.std.specs.Prelude.{None, Some}
+use Rattle.place_in_list.specs.Place.{Found}
 use Rattle.clusters.specs.Exact.{put_at}
 use Rattle.clusters.proofs.Arrays.{set-put}
 use Rattle.model.specs.State as model
@@ -55,8 +55,8 @@ module _ (t : Transfers) (few : t.count ≤ packages_most) (long : length t.pack
       by-packages e = ap (λ (l : List model.Package). with_packages l (view_transfers t)) e
 
       go : (r : Found) → place_of id ps ≡ r → view_transfers (changed_at change t r) ≡ with_packages (changed id change' ps) (view_transfers t)
-      go Nothing e = by-packages (nothing-changed id change' ps (nothing-found id ps e))
-      go (At i) e =
+      go None e = by-packages (nothing-changed id change' ps (nothing-found id ps e))
+      go (Some i) e =
           let first = place-first id ps i e in
           let below : i < t.count = omega (arith, first_below first, packages-length t few long) in
           by-packages
@@ -65,7 +65,7 @@ module _ (t : Transfers) (few : t.count ≤ packages_most) (long : length t.pack
           ∙ sym (first-changed first change' (view_package cleared_package) ∙ set-put ps i _ (first_below first)))
 
 -- a call that changes the package at its place changes the package of the id; stored is the store then
-pub given-at : (s : State) (store : Store) (id i : ℕ) (change : Package → Package) (answer : Answer) (r : Answered) (stored store' : Store)
+pub given-at : (s : State) (store : Store) (id i : ℕ) (change : Package → Package) (answer : Answer) (r : Answered Answer) (stored store' : Store)
     → FoundAt s store id i → r ≡ answered answer (with_transfers (with_package i (change (package_at s.transfers i)) s.transfers) s)
     → store' ≡ stored → outcome r store' ≡ outcome (answered answer (with_transfers (with_changed id change s.transfers) s)) stored
 unfolding with_changed

@@ -8,7 +8,7 @@ use native.Mathlib.Omega.{arith}
 use lib.ListN.{length}
 use Rattle.base.specs.Refusals.{first_refusal}
 use Rattle.base.proofs.Ladder.{told-yes}
-use Rattle.place_in_list.specs.declared.Found.TheVariants.{At}
+use Rattle.std.specs.Prelude.{Some}
 use Rattle.model.specs.State as model
 use Rattle.model.specs.State.{Store, is_processing}
 use Rattle.model.specs.Calls.{Call, call_number}
@@ -64,7 +64,7 @@ at_place s store i ok long in-it e =
     let ps = view_packages s.transfers in
     let facts = sound-says (view_state s) store ok in
     let there = place_found s.transfers.next ps (view_package cleared_package) facts.rise (omega (arith, one-processing s store ok in-it)) in
-    let found = found_at s store (processing_id ps) i (place_of (processing_id ps) ps) ok long refl (there ∙ ap At (sym e)) in
+    let found = found_at s store (processing_id ps) i (place_of (processing_id ps) ps) ok long refl (there ∙ ap Some (sym e)) in
     let kept = kept-facts s store ok in-it in
     record {
       phase = in-it;

@@ -5,3 +5,4 @@ pub mod FirstPlaces
 pub mod Kept
 pub mod ProcessingPlace
 pub mod InProcessing
+pub mod ReadingLaws

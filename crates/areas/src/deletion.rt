@@ -6,7 +6,7 @@ ghost use Rattle.model.specs.Sound.{packages_most};
 ghost use Rattle.state.specs.View.{view_package, view_packages};
 ghost use Rattle.areas.specs.Deletion.{keeps, remaining_transfers};
 
-use state::package::{Package, is_processed};
+use state::package::{Package, PackageState};
 use state::transfers::Transfers;
 
 // What is deleted: by DeleteTransfer the package with an id, by clean-up all that are Processed.
@@ -21,10 +21,7 @@ fn keeps(deletion: Deletion, p: Package) -> bool
 {
     match deletion {
         Deletion::WithId(id) => id != p.id,
-        Deletion::AllProcessed => {
-            let state = p.state;
-            !is_processed(state)
-        }
+        Deletion::AllProcessed => p.state != PackageState::Processed,
     }
 }
 
@@ -34,20 +31,16 @@ pub fn remaining(t: Transfers, deletion: Deletion) -> Transfers
     requires { t.count ≤ packages_most }
     ensures { result ≡ remaining_transfers deletion t }
 {
-    let count = t.count;
     let mut packages = t.packages;
     let mut kept = 0;
-    let mut i = 0;
-    while i < count {
-        let p = t.packages[i];
-        if keeps(deletion, p) {
-            packages[kept] = p;
+    for p in &t.packages[..t.count] {
+        if keeps(deletion, *p) {
+            packages[kept] = *p;
             kept += 1;
         }
-        i += 1;
     }
     Transfers {
-        packages: packages,
+        packages,
         count: kept,
         next: t.next,
     }
@@ -59,19 +52,15 @@ pub fn delete_areas(t: Transfers, deletion: Deletion, store: &mut [u8])
     requires { (t.count ≤ packages_most) × (declared (view_packages t) ≤ length store.old) }
     ensures { store.new ≡ deleted (keeps deletion) (view_packages t) store.old }
 {
-    let count = t.count;
     let mut old_end: usize = 0;
     let mut new_end: usize = 0;
-    let mut i = 0;
-    while i < count {
-        let p = t.packages[i];
+    for p in &t.packages[..t.count] {
         let size = p.size as usize;
-        if keeps(deletion, p) {
+        if keeps(deletion, *p) {
             store::move_down(store, old_end, new_end, size);
             new_end += size;
         }
         old_end += size;
-        i += 1;
     }
     store::clear_part(store, new_end, old_end);
 }

@@ -1,27 +1,31 @@
-// How the text in a package's area is refused.
-ghost use Rattle.std.specs.Prelude.{◌≡◌};
+// How the text in a package's area is read or refused.
+ghost use Rattle.std.specs.Prelude.{◌≡◌, IfOk};
+ghost use Rattle.base.specs.Refusals.{first_refusal};
+ghost use Rattle.refusal.specs.Number.{number_of, refused_with};
 ghost use Rattle.manifest.specs.Package.{read_package};
-ghost use Rattle.manifest.specs.Answer.{answer_number, refusal_number};
+ghost use Rattle.manifest.specs.Refused.{package_refusals};
+ghost use Rattle.manifest.specs.Answer.{error_number, package_read};
 
-use manifest::package::{PackageAnswer, read_package};
-use refusal::{INVALID_MANIFEST, PACKAGE_INCONSISTENT};
+use manifest::package::{PackageError, PackageRead, read_package};
+use refusal::Refusal;
 
-// Gives the number of an answer of the reader: 9, 10, or 0 for neither.
-pub fn answer_refusal(answer: PackageAnswer) -> u32
-    ensures { result ≡ answer_number answer }
+// Returns the refusal for an error of the reader: 9 (InvalidManifest) or 10 (PackageInconsistent).
+fn error_refusal(error: PackageError) -> Refusal
+    ensures { number_of result ≡ error_number error }
 {
-    match answer {
-        PackageAnswer::Consistent => 0,
-        PackageAnswer::IllFormed => INVALID_MANIFEST,
-        PackageAnswer::Inconsistent => PACKAGE_INCONSISTENT,
+    match error {
+        PackageError::IllFormed => Refusal::InvalidManifest,
+        PackageError::Inconsistent => Refusal::PackageInconsistent,
     }
 }
 
-// Gives the number of the first of 9 and 10 that applies to an area, or 0. The text is read once.
-pub fn area_refusal(area: &[u8]) -> u32
-    ensures { result ≡ refusal_number (read_package area.now) }
+// Reads the package in an area, or refuses it by 9 (InvalidManifest) or 10 (PackageInconsistent). The text is read once.
+pub fn read_area(area: &[u8]) -> Result<PackageRead, Refusal>
+    ensures refused { refused_with result ≡ first_refusal (package_refusals (read_package area.now)) }
+    ensures read { IfOk result (λ r. r ≡ package_read (read_package area.now)) }
 {
-    let read = read_package(area);
-    let answer = read.answer;
-    answer_refusal(answer)
+    match read_package(area) {
+        Ok(read) => Ok(read),
+        Err(error) => Err(error_refusal(error)),
+    }
 }

@@ -13,11 +13,8 @@ pub fn area_start(t: Transfers, i: usize) -> usize
     ensures { result ≡ declared (take i (view_packages t)) }
 {
     let mut start: usize = 0;
-    let mut j = 0;
-    while j < i {
-        let p = t.packages[j];
+    for p in &t.packages[..i] {
         start += p.size as usize;
-        j += 1;
     }
     start
 }
@@ -27,9 +24,5 @@ pub fn free_bytes(t: Transfers, store_length: usize) -> usize
     requires { t.count ≤ packages_most }
     ensures { result ≡ store_length - declared (view_packages t) }
 {
-    let declared = area_start(t, t.count);
-    if declared > store_length {
-        return 0;
-    }
-    store_length - declared
+    store_length.saturating_sub(area_start(t, t.count))
 }

@@ -1,17 +1,31 @@
--- A check that answers the number of the first refusal, or 0: `search numbers` closes each of its returns. Where it answers 0 none applies,
--- because no number of a list is 0. Assumes nothing.
+-- A check that answers the first refusal, or none: `search numbers` closes each of its returns, whether it answers by an Option of the
+-- number or by the number and 0. Where it answers 0 none applies, because no number of a list is 0. Assumes nothing.
 use Prim.Native.Nat.{ℕ}
 use mathlib.Core.Path.{◌≡◌, refl, sym, ap, ◌∙◌}
 use mathlib.Core.Bool.{Bool, true, false, not, cond, ◌&&◌, ◌||◌}
 use mathlib.Core.List.{List, [], ◌∷◌}
-use mathlib.Core.Option.{none, some}
+use mathlib.Core.Option.{Option, none, some}
 use lib.Dec.{eqb}
 use borrow.Author.Tests.{not-true, eqb-false, eq-eqb, ne_eqb}
 use Rattle.base.specs.Refusals.{Refusal, refuse◌when◌, first_refusal, none_applies, number_or_zero}
 use Rattle.base.proofs.Tests.{and_left, and_right, or-first, or-second}
 use Rattle.base.proofs.Ladder.{ladder, told, told-no, told-yes}
 
--- ---- the number
+-- ---- the first, or none
+
+pub first-stop : (n : ℕ) (b : Bool) (rs : List Refusal) → b ≡ true → some n ≡ first_refusal ((refuse n when b) ∷ rs)
+unfolding first_refusal
+first-stop n b rs e = rw e
+
+pub first-on : (x : Option ℕ) (n : ℕ) (b : Bool) (rs : List Refusal) → b ≡ false → x ≡ first_refusal rs → x ≡ first_refusal ((refuse n when b) ∷ rs)
+unfolding first_refusal
+first-on x n b rs e same = rw e same
+
+pub first-none : none ≡ first_refusal []
+unfolding first_refusal
+first-none = refl
+
+-- ---- the number, or 0
 
 pub number-stop : (n : ℕ) (b : Bool) (rs : List Refusal) → b ≡ true → n ≡ number_or_zero (first_refusal ((refuse n when b) ∷ rs))
 unfolding first_refusal
@@ -39,7 +53,7 @@ not-unequal a b e = ap not (ne_eqb a b e)
 pub or-neither : (a b : Bool) → a ≡ false → b ≡ false → a || b ≡ false
 or-neither a b e f = rw (e, f)
 
-pub ruleset numbers = (number-stop, number-on, no_number, ladder, told, told-no, told-yes, told-not, not_equal, not-unequal, or-first, or-second, or-neither)
+pub ruleset numbers = (first-stop, first-on, first-none, number-stop, number-on, no_number, ladder, told, told-no, told-yes, told-not, not_equal, not-unequal, or-first, or-second, or-neither)
 
 -- ---- the 0
 

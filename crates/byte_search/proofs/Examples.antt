@@ -4,10 +4,9 @@ use mathlib.Core.Path.{refl}
 use mathlib.Core.List.{List, [], ◌∷◌}
 use Rattle.base.specs.Quoted.{bytes, comma}
 use Rattle.base.proofs.Tables.{◌gives◌, AllHold}
-use Rattle.byte_search.specs.Bytes.{index_of, index_after, slice}
+use Rattle.byte_search.specs.Bytes.{index_of, slice}
 
 first : AllHold (index_of comma) (bytes ",a," gives 0 ∷ bytes "a,," gives 1 ∷ bytes "ab," gives 2 ∷ bytes "ab" gives 2 ∷ [] gives 0 ∷ [])
-unfolding index_of index_after
 first = refl
 
 -- the place `from` is in the part, the place `to` is not

@@ -1,2 +1,2 @@
-mod SearchLaws
 mod Examples
+mod FirstPlace

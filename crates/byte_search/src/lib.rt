@@ -13,12 +13,8 @@ pub fn find(s: &[u8], from: usize, to: usize, b: u8) -> usize
     ensures after_from { from ≤ result }
     ensures up_to { result ≤ to }
 {
-    let mut i = from;
-    while i < to {
-        if s[i] == b {
-            return i;
-        }
-        i += 1;
+    match s[from..to].iter().position(|x| *x == b) {
+        Some(i) => from + i,
+        None => to,
     }
-    i
 }

@@ -12,7 +12,7 @@ use Rattle.state.specs.Exact.{loaded_state}
 use Rattle.four_state.specs.MixedLists.{MixedCall}
 use Rattle.call_list.specs.declared.ListReply.{ListReply}
 use Rattle.call_list.specs.declared.ListReply.TheVariants.{Made, BadLoad, Malformed, ShortAnswers}
-use Rattle.call_list.specs.declared.RepliedList.{RepliedList}
+use Rattle.state.specs.declared.answer.Answered.{Answered}
 use Rattle.call_list.specs.Replies.{load_reply}
 use Rattle.call_list.specs.WholeList.{list_outcome}
 use Rattle.call_list.specs.Loaded.{load_and_run_outcome, DemandMetIfMade, LoadReplied}
@@ -39,10 +39,10 @@ made-by-0 ShortAnswers e = absurd (omega arith)
 
 module _ (list : List ℕ) (first : ℕ) (store : Store) (words : List ℕ) (given : Option (List MixedCall)) (store' : Store) (words' : List ℕ) where
   -- the clauses of `load_and_run` from a state
-  abbrev Replied : State → RepliedList → Type 0
+  abbrev Replied : State → Answered ListReply → Type 0
   Replied s r =
       (list_outcome r store' words' ≡ load_and_run_outcome s list first store words given)
-      × (LoadReplied s list first store r.reply × DemandMetIfMade s list first store words given r store' words')
+      × (LoadReplied s list first store r.answer × DemandMetIfMade s list first store words given r store' words')
 
   -- and those of the exported function
   abbrev Numbered : ℕ → Type 0
@@ -50,16 +50,16 @@ module _ (list : List ℕ) (first : ℕ) (store : Store) (words : List ℕ) (giv
       (numbered_outcome number store' words' ≡ load_and_run_numbered list first store words given)
       × (LoadRepliedBy list first store number × DemandMetBy0 list first store words given number store' words')
 
-  by-its-number : (r : RepliedList) → Replied nothing_loaded r → Numbered (result_number r.reply)
+  by-its-number : (r : Answered ListReply) → Replied nothing_loaded r → Numbered (result_number r.answer)
   by-its-number r c = (
     ap numbered c.0,
     (
-      λ reply is. c.1.0 reply (sym (load-reply-by-number r.reply) ∙ is),
-      λ calls is zero. record { state = r.state; met = c.1.1 calls is (made-by-0 r.reply zero) },
+      λ reply is. c.1.0 reply (sym (load-reply-by-number r.answer) ∙ is),
+      λ calls is zero. record { state = r.state; met = c.1.1 calls is (made-by-0 r.answer zero) },
     ),
   )
 
-  pub by_number : (s : State) (r : RepliedList) (number : ℕ) → s ≡ nothing_loaded → Replied s r → number ≡ result_number r.reply
+  pub by_number : (s : State) (r : Answered ListReply) (number : ℕ) → s ≡ nothing_loaded → Replied s r → number ≡ result_number r.answer
       → Numbered number
   by_number s r number nothing c is =
       subst Numbered (sym is) (by-its-number r (subst (λ (x : State). Replied x r) nothing c))

@@ -27,7 +27,7 @@ numbered_outcome number store answers = record { number = number; store = store;
 
 -- an outcome of a list of calls by its number; the state in it is left out
 abbrev pub numbered : ListOutcome → NumberedOutcome
-numbered o = numbered_outcome (result_number o.replied.reply) o.store o.answers
+numbered o = numbered_outcome (result_number o.replied.answer) o.store o.answers
 
 -- what `load_and_run` gives from there, by its number
 abbrev pub load_and_run_numbered : List ℕ → ℕ → Store → List ℕ → Option (List MixedCall) → NumberedOutcome

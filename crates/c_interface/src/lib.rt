@@ -57,6 +57,6 @@ pub fn wozkindu_load_and_run(
         (decoded words.now bytes.now) result store.new answers.new }
 {
     let made = load_and_run(nothing_loaded(), list, first, store, words, bytes, answers);
-    let reply = made.reply;
+    let reply = made.answer;
     result_number(reply)
 }

@@ -28,10 +28,8 @@ fn show_named(rt: &HostRuntime, answer: Answer) -> io::Result<()> {
     }
 }
 
-// Prints the answer and gives the state.
-pub fn show_answer(rt: &HostRuntime, r: Answered) -> io::Result<State> {
-    let answer = r.answer;
-    show_named(rt, answer)?;
-    let s = r.state;
-    Ok(s)
+// Prints the answer and returns the state.
+pub fn show_answer(rt: &HostRuntime, r: Answered<Answer>) -> io::Result<State> {
+    show_named(rt, r.answer)?;
+    Ok(r.state)
 }

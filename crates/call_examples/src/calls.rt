@@ -1,11 +1,12 @@
 // A case is a call, or each of the twelve on the state changed to one that is not sound or with a mark set, or shows a payload or the
 // store.
 use crate::answers::show_answer;
+use crate::kinds::{Call, Kind, SessionCall, TWELVE, kind_of};
 use crate::marks::marked;
 use crate::old_calls::make_old_call;
 use crate::unsound::made_unsound;
 use cancel_processing::cancel;
-use cases::case::{field, kind_of};
+use cases::case::field;
 use cases::show;
 use cases::values::number_of;
 use delete_transfer::delete_transfer;
@@ -23,56 +24,54 @@ use transfer_exit::transfer_exit;
 use transfer_start::transfer_start;
 use work_on_payload::work;
 
-// Makes a call that is neither Load nor a transfer call, by its place among the sentences.
+// Makes a call that is neither Load nor a transfer call.
 fn make_session_call(
     rt: &HostRuntime,
     s: State,
     store: &mut [u8],
-    first: u32,
-    kind: usize,
+    id: u32,
+    call: SessionCall,
 ) -> io::Result<State> {
-    match kind {
-        5 => show_answer(rt, process(s, store, first)),
-        6 => show_answer(rt, work(s, store, first)),
-        7 => show_answer(rt, cancel(s, store, first)),
-        8 => show_answer(rt, revert(s, store)),
-        9 => show_answer(rt, activate(s, store)),
-        10 => show_answer(rt, rollback(s, store)),
-        11 => show_answer(rt, finish(s, store)),
-        12 => show_answer(rt, report(s, store, true)),
-        13 => show_answer(rt, report(s, store, false)),
-        _ => make_old_call(rt, s, store, first, kind),
+    match call {
+        SessionCall::Process => show_answer(rt, process(s, store, id)),
+        SessionCall::Work => show_answer(rt, work(s, store, id)),
+        SessionCall::Cancel => show_answer(rt, cancel(s, store, id)),
+        SessionCall::Revert => show_answer(rt, revert(s, store)),
+        SessionCall::Activate => show_answer(rt, activate(s, store)),
+        SessionCall::Rollback => show_answer(rt, rollback(s, store)),
+        SessionCall::Finish => show_answer(rt, finish(s, store)),
+        SessionCall::ReportGood => show_answer(rt, report(s, store, true)),
+        SessionCall::ReportBad => show_answer(rt, report(s, store, false)),
     }
 }
 
-// Makes a call by its place among the sentences.
+// Makes a call with the numbers and bytes of a case.
 fn make_call(
     rt: &HostRuntime,
     s: State,
     store: &mut [u8],
     case: &[u8],
-    kind: usize,
+    call: Call,
 ) -> io::Result<State> {
     let first = number_of(field(case, 1));
-    match kind {
-        0 => show_answer(rt, load(s, field(case, 2), first, store)),
-        1 => show_answer(rt, transfer_start(s, store, first)),
-        2 => show_answer(
+    match call {
+        Call::Load => show_answer(rt, load(s, field(case, 2), first, store)),
+        Call::Start => show_answer(rt, transfer_start(s, store, first)),
+        Call::Data => show_answer(
             rt,
             transfer_data(s, store, first, number_of(field(case, 2)), field(case, 3)),
         ),
-        3 => show_answer(rt, transfer_exit(s, store, first)),
-        4 => show_answer(rt, delete_transfer(s, store, first)),
-        _ => make_session_call(rt, s, store, first, kind),
+        Call::Exit => show_answer(rt, transfer_exit(s, store, first)),
+        Call::Delete => show_answer(rt, delete_transfer(s, store, first)),
+        Call::Old(old) => make_old_call(rt, s, store, first, old),
+        Call::Session(session) => make_session_call(rt, s, store, first, session),
     }
 }
 
 // Makes each of the twelve calls on a state, in the order of the sentences.
 fn make_each_call(rt: &HostRuntime, s: State, store: &mut [u8], case: &[u8]) -> io::Result<()> {
-    let mut kind = 1;
-    while kind < 14 {
-        make_call(rt, s, store, case, kind)?;
-        kind += 1;
+    for call in TWELVE {
+        make_call(rt, s, store, case, call)?;
     }
     Ok(())
 }
@@ -86,48 +85,27 @@ fn show_payload(rt: &HostRuntime, s: State, store: &[u8], id: u32) -> io::Result
 }
 
 fn show_store(rt: &HostRuntime, store: &[u8]) -> io::Result<()> {
-    let mut i = 0;
-    while i < store.len() {
-        let b = store[i];
-        if b == 0 {
-            show::byte(rt, b'.')?;
-        } else {
-            show::byte(rt, b)?;
-        }
-        i += 1;
+    for b in store {
+        show::byte(rt, if *b == 0 { b'.' } else { *b })?;
     }
     Ok(())
-}
-
-// Plays a case that leaves the state as it is.
-fn show_case(
-    rt: &HostRuntime,
-    s: State,
-    store: &mut [u8],
-    case: &[u8],
-    kind: usize,
-) -> io::Result<()> {
-    match kind {
-        18 => show_payload(rt, s, store, number_of(field(case, 1))),
-        19 => show_store(rt, store),
-        20 => make_each_call(rt, made_unsound(s, number_of(field(case, 2))), store, case),
-        21 => make_each_call(rt, marked(s, number_of(field(case, 2))), store, case),
-        _ => show::bytes(rt, b" no such kind of case"),
-    }
 }
 
 // Plays a case by its sentence, which is printed before what the case gives.
 pub fn make_case(rt: &HostRuntime, s: State, store: &mut [u8], case: &[u8]) -> io::Result<State> {
     let sentence = field(case, 0);
     show::with_fields(rt, sentence, case)?;
-    let kind = kind_of(
-        sentence,
-        b"load, first id %:;start %:;data % %:;exit %:;delete %:;process %:;work %:;cancel %:;revert:;activate:;rollback:;finish:;report good:;report bad:;old activate:;old cancel %:;old revert:;old rollback:;payload %:;store:;unsound, %:;mark set in the %:;",
-        22,
-    );
-    if kind < 18 {
-        return make_call(rt, s, store, case, kind);
+    match kind_of(sentence) {
+        Some(Kind::Call(call)) => return make_call(rt, s, store, case, call),
+        Some(Kind::Payload) => show_payload(rt, s, store, number_of(field(case, 1)))?,
+        Some(Kind::Store) => show_store(rt, store)?,
+        Some(Kind::Unsound) => {
+            make_each_call(rt, made_unsound(s, number_of(field(case, 2))), store, case)?;
+        }
+        Some(Kind::Marked) => {
+            make_each_call(rt, marked(s, number_of(field(case, 2))), store, case)?;
+        }
+        None => show::bytes(rt, b" no such kind of case")?,
     }
-    show_case(rt, s, store, case, kind)?;
     Ok(s)
 }

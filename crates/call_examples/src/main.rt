@@ -4,6 +4,7 @@
 
 mod answers;
 mod calls;
+mod kinds;
 mod marks;
 mod old_calls;
 mod unsound;
@@ -15,16 +16,15 @@ use clusters::table::empty_table;
 use state::state::loaded_state;
 use std::io;
 
-// Plays each case, from behind its `#` to the next.
+// Plays each case, from behind its `#` to the next. The first byte is the first `#`.
 fn make_calls(rt: &HostRuntime, input: &[u8], store: &mut [u8]) -> io::Result<()> {
+    let Some((_, cases)) = input.split_first() else {
+        return Ok(());
+    };
     let mut s = loaded_state(empty_table(), 1);
-    let mut at = 0;
-    while at < input.len() {
-        let from = at + 1;
-        let end = byte_search::find(input, from, input.len(), b'#');
-        s = make_case(rt, s, store, &input[from..end])?;
+    for case in cases.split(|b| *b == b'#') {
+        s = make_case(rt, s, store, case)?;
         show::byte(rt, b'\n')?;
-        at = end;
     }
     Ok(())
 }

@@ -6,53 +6,36 @@ use clusters::cluster::with_mark;
 use clusters::table::Table;
 use state::session::Session;
 use state::state::State;
-use state::work::Work;
 
 fn marked_table(table: Table) -> Table {
     let mut t = table;
-    let c = with_mark(t.clusters[0], true);
-    t.clusters[0] = c;
+    t.clusters[0] = with_mark(t.clusters[0], true);
     t
 }
 
 fn marked_action(action: Action) -> Action {
-    let mut a = action;
-    let c = with_mark(a.cluster, true);
-    a.cluster = c;
-    a
+    Action {
+        cluster: with_mark(action.cluster, true),
+        ..action
+    }
 }
 
 fn marked_session(session: Session, place: u32) -> Session {
     let mut e = session;
-    if place == 0 {
-        let table = marked_table(e.beginning);
-        e.beginning = table;
-    }
-    if place == 1 {
-        let mut entry = e.entries[0];
-        let action = marked_action(entry.action);
-        entry.action = action;
-        e.entries[0] = entry;
+    match place {
+        0 => e.beginning = marked_table(e.beginning),
+        1 => e.entries[0].action = marked_action(e.entries[0].action),
+        _ => {}
     }
     e
-}
-
-fn marked_work(work: Work) -> Work {
-    let mut w = work;
-    let action = marked_action(w.action);
-    w.action = action;
-    w
 }
 
 // Sets the mark at a place of a state: the table's 0, the listed action's 1, the kept action's any other.
 pub fn marked(s: State, place: u32) -> State {
     let mut v = s;
-    if 1 < place {
-        let work = marked_work(v.work);
-        v.work = work;
-        return v;
+    match place {
+        0 | 1 => v.session = marked_session(v.session, place),
+        _ => v.work.action = marked_action(v.work.action),
     }
-    let session = marked_session(v.session, place);
-    v.session = session;
     v
 }

@@ -1,33 +1,33 @@
 // The old four, each by its own function.
+use crate::kinds::OldCall;
 use cases::show;
 use four_state::activate::activate;
-use four_state::answer::OldAnswered;
 use four_state::cancel::cancel;
 use four_state::revert::revert;
 use four_state::rollback::rollback;
+use state::answer::Answered;
 use state::state::State;
 use std::io;
 
-// Prints the answer and gives the state.
-fn show_old(rt: &HostRuntime, r: OldAnswered) -> io::Result<State> {
+// Prints the answer and returns the state.
+fn show_old(rt: &HostRuntime, r: Answered<u8>) -> io::Result<State> {
     show::bytes(rt, b" old ")?;
-    show::number(rt, r.answer as u32)?;
-    let s = r.state;
-    Ok(s)
+    show::number(rt, u32::from(r.answer))?;
+    Ok(r.state)
 }
 
-// Makes an old call by its place among the sentences.
+// Makes an old call.
 pub fn make_old_call(
     rt: &HostRuntime,
     s: State,
     store: &[u8],
     id: u32,
-    kind: usize,
+    call: OldCall,
 ) -> io::Result<State> {
-    match kind {
-        14 => show_old(rt, activate(s, store)),
-        15 => show_old(rt, cancel(s, store, id)),
-        16 => show_old(rt, revert(s, store)),
-        _ => show_old(rt, rollback(s, store)),
+    match call {
+        OldCall::Activate => show_old(rt, activate(s, store)),
+        OldCall::Cancel => show_old(rt, cancel(s, store, id)),
+        OldCall::Revert => show_old(rt, revert(s, store)),
+        OldCall::Rollback => show_old(rt, rollback(s, store)),
     }
 }

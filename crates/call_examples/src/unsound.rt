@@ -9,71 +9,47 @@ use state::state::{State, in_phase};
 use state::transfers::{Transfers, with_package};
 use state::work::Work;
 
-fn wrong_numbers(p: Package, change: u32) -> Package {
-    let mut q = p;
-    if change == 1 {
-        q.id = 0;
+fn wrong_package(package: Package, change: u32) -> Package {
+    let mut p = package;
+    match change {
+        1 => p.id = 0,
+        2 => p.size = 0,
+        3 => p.received = 90,
+        4 => p.size = 4294967295,
+        5 => p.blocks = 92,
+        6 => p = in_state(p, PackageState::Processing),
+        7 => p = in_state(p, PackageState::Processed),
+        _ => {}
     }
-    if change == 2 {
-        q.size = 0;
-    }
-    if change == 3 {
-        q.received = 90;
-    }
-    if change == 4 {
-        q.size = 4294967295;
-    }
-    if change == 5 {
-        q.blocks = 92;
-    }
-    q
+    p
 }
 
-fn wrong_package(p: Package, change: u32) -> Package {
-    if change == 6 {
-        return in_state(p, PackageState::Processing);
+fn wrong_transfers(transfers: Transfers, change: u32) -> Transfers {
+    let mut t = transfers;
+    match change {
+        8 => t.count = 17,
+        9 => t.next = 0,
+        10 => t.next = 2,
+        11 => t.next = 4294967297,
+        _ => {}
     }
-    if change == 7 {
-        return in_state(p, PackageState::Processed);
-    }
-    wrong_numbers(p, change)
+    with_package(t, 0, wrong_package(t.packages[0], change))
 }
 
-fn wrong_transfers(t: Transfers, change: u32) -> Transfers {
-    let mut u = t;
-    if change == 8 {
-        u.count = 17;
+fn wrong_cluster(cluster: Cluster, change: u32) -> Cluster {
+    let mut c = cluster;
+    match change {
+        12 => c.part = 0,
+        13 => c.version.third = 65536,
+        14 => c.need_count = 5,
+        _ => {}
     }
-    if change == 9 {
-        u.next = 0;
-    }
-    if change == 10 {
-        u.next = 2;
-    }
-    if change == 11 {
-        u.next = 4294967297;
-    }
-    u
-}
-
-fn wrong_cluster(c: Cluster, change: u32) -> Cluster {
-    let mut d = c;
-    if change == 12 {
-        d.part = 0;
-    }
-    if change == 13 {
-        d.version.third = 65536;
-    }
-    if change == 14 {
-        d.need_count = 5;
-    }
-    d
+    c
 }
 
 fn wrong_table(table: Table, change: u32) -> Table {
     let mut t = table;
-    let c = wrong_cluster(t.clusters[0], change);
-    t.clusters[0] = c;
+    t.clusters[0] = wrong_cluster(t.clusters[0], change);
     if change == 15 {
         t.count = 65;
     }
@@ -82,39 +58,32 @@ fn wrong_table(table: Table, change: u32) -> Table {
 
 fn wrong_session(session: Session, change: u32) -> Session {
     let mut e = session;
-    let table = wrong_table(e.beginning, change);
-    e.beginning = table;
-    if change == 16 {
-        e.count = 1;
-    }
-    if change == 17 {
-        e.count = 17;
+    e.beginning = wrong_table(e.beginning, change);
+    match change {
+        16 => e.count = 1,
+        17 => e.count = 17,
+        _ => {}
     }
     e
 }
 
 fn wrong_work(work: Work, change: u32) -> Work {
     let mut w = work;
-    if change == 18 {
-        w.start = 1;
-    }
-    if change == 19 {
-        w.cancel_noted = true;
+    match change {
+        18 => w.start = 1,
+        19 => w.cancel_noted = true,
+        _ => {}
     }
     w
 }
 
 fn wrong_parts(s: State, change: u32) -> State {
-    let mut v = s;
-    let t = wrong_transfers(v.transfers, change);
-    let first = wrong_package(t.packages[0], change);
-    let u = with_package(t, 0, first);
-    v.transfers = u;
-    let session = wrong_session(v.session, change);
-    v.session = session;
-    let work = wrong_work(v.work, change);
-    v.work = work;
-    v
+    State {
+        transfers: wrong_transfers(s.transfers, change),
+        session: wrong_session(s.session, change),
+        work: wrong_work(s.work, change),
+        ..s
+    }
 }
 
 // Makes a state unsound, by the change that a number names.

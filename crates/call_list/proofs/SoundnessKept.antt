@@ -17,7 +17,8 @@ use Rattle.state.specs.declared.state.State.{State}
 use Rattle.state.specs.View.{view_state}
 use Rattle.four_state.specs.MixedLists.{MixedCall, MixedReply, mixed_step, counts_as}
 use Rattle.four_state.proofs.MixedLists.{mixed-layer}
-use Rattle.call_list.specs.declared.RowAnswered.{RowAnswered}
+use Rattle.call_rows.specs.declared.answer_words.AnswerWords.{AnswerWords}
+use Rattle.state.specs.declared.answer.Answered.{Answered}
 use Rattle.call_list.specs.WholeList.{CallMade}
 
 module _ (s : model.State) (store : Store) where
@@ -44,7 +45,7 @@ module _ (s : model.State) (store : Store) where
   of_either o (some m) same = ap (λ (x : Outcome). sound x.state x.store) (sym same) ∙ of-twelve m.call
 
 -- a call that was made
-pub made-soundness : (s : State) (store : Store) (call : MixedCall) (given : RowAnswered) (store' : Store) → CallMade s store call given store'
+pub made-soundness : (s : State) (store : Store) (call : MixedCall) (given : Answered AnswerWords) (store' : Store) → CallMade s store call given store'
     → sound (view_state given.state) store' ≡ sound (view_state s) store
 made-soundness s store call given store' made =
     let o = mixed_step (view_state s) store call in

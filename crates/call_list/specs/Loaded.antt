@@ -16,7 +16,7 @@ use Rattle.load.specs.Exact.{load, model_load}
 use Rattle.four_state.specs.MixedLists.{MixedCall, MixedReply, counts_as, MixedMade}
 use Rattle.call_list.specs.declared.ListReply.{ListReply}
 use Rattle.call_list.specs.declared.ListReply.TheVariants.{Made}
-use Rattle.call_list.specs.declared.RepliedList.{RepliedList}
+use Rattle.state.specs.declared.answer.Answered.{Answered}
 use Rattle.call_list.specs.Run.{exact_mixed_step}
 use Rattle.call_list.specs.Answers.{answers_after}
 use Rattle.call_list.specs.Replies.{load_reply, calls_made, list_reply, with_load, calls_given}
@@ -54,9 +54,9 @@ pub record DemandMet (given : State) (list : List ℕ) (first : ℕ) (lent : Sto
   pub invariant : Invariant (journal_of list made) (view_state s) store
 
 -- of a list that was made demand 3 is met
-abbrev pub DemandMetIfMade : State → List ℕ → ℕ → Store → List ℕ → Option (List MixedCall) → RepliedList → Store → List ℕ → Type 0
+abbrev pub DemandMetIfMade : State → List ℕ → ℕ → Store → List ℕ → Option (List MixedCall) → Answered ListReply → Store → List ℕ → Type 0
 DemandMetIfMade s list first store answers given r store' answers' =
-    (calls : List MixedCall) → given ≡ some calls → r.reply ≡ Made
+    (calls : List MixedCall) → given ≡ some calls → r.answer ≡ Made
     → DemandMet s list first store answers calls r.state store' answers'
 
 -- where Load was made, the reply for the list says what the model's Load replies

@@ -8,6 +8,7 @@ use Rattle.model.specs.Invariant.{Invariant}
 use Rattle.model.specs.Layers.{EventRun, event_outcome, event_run, run_events, view_run_by, counted_in}
 use Rattle.state.specs.declared.state.State.{State}
 use Rattle.state.specs.View.{view_state}
+use Rattle.state.specs.Outcome.{answered}
 use Rattle.four_state.specs.MixedLists.{MixedCall, MixedReply, mixed_step, counts_as, MixedMade, mixed_run, MixedDemand}
 use Rattle.call_rows.specs.declared.row.Row.{Row}
 use Rattle.call_rows.specs.declared.answer_words.AnswerWords.{AnswerWords}
@@ -15,29 +16,25 @@ use Rattle.call_rows.specs.Row.{decoded_row}
 use Rattle.call_rows.specs.Answers.{answer_words}
 use Rattle.call_list.specs.declared.ListReply.{ListReply}
 use Rattle.call_list.specs.declared.ListReply.TheVariants.{Made}
-use Rattle.call_list.specs.declared.RepliedList.{RepliedList}
-use Rattle.call_list.specs.declared.RowAnswered.{RowAnswered}
+use Rattle.state.specs.declared.answer.Answered.{Answered}
 use Rattle.call_list.specs.Run.{exact_mixed_step}
 use Rattle.call_list.specs.Answers.{words_of, answers_after}
 use Rattle.call_list.specs.Replies.{calls_made, list_reply, calls_given}
 
 -- ---- on the structs
 
-abbrev pub replied : ListReply → State → RepliedList
-replied reply s = record { reply = reply; state = s }
-
 -- what is lent and given back: the reply for the whole list with the state, the store and the slice of answers
 pub record ListOutcome : Type 0 where
-  pub replied : RepliedList
+  pub replied : Answered ListReply
   pub store : Store
   pub answers : List ℕ
 
-abbrev pub list_outcome : RepliedList → Store → List ℕ → ListOutcome
+abbrev pub list_outcome : Answered ListReply → Store → List ℕ → ListOutcome
 list_outcome r store answers = record { replied = r; store = store; answers = answers }
 
 -- that of the calls made: their run, and their answers in the first words of the slice
 abbrev pub outcome_of : ListReply → EventRun State MixedCall MixedReply → List ℕ → ListOutcome
-outcome_of reply r answers = list_outcome (replied reply r.state) r.store (answers_after r.made answers)
+outcome_of reply r answers = list_outcome (answered reply r.state) r.store (answers_after r.made answers)
 
 -- a malformed list, or one with more calls than there is room for answers, changes nothing; every other is made whole
 unfoldable pub run_outcome : State → Store → List ℕ → Option (List MixedCall) → ListOutcome
@@ -54,7 +51,7 @@ pub record ModelListOutcome : Type 0 where
   pub answers : List ℕ
 
 abbrev pub view_list_outcome : ListOutcome → ModelListOutcome
-view_list_outcome o = record { reply = o.replied.reply; state = view_state o.replied.state; store = o.store; answers = o.answers }
+view_list_outcome o = record { reply = o.replied.answer; state = view_state o.replied.state; store = o.store; answers = o.answers }
 
 abbrev pub model_outcome_of : ListReply → EventRun model.State MixedCall MixedReply → List ℕ → ModelListOutcome
 model_outcome_of reply r answers = record { reply = reply; state = r.state; store = r.store; answers = answers_after r.made answers }
@@ -73,26 +70,22 @@ pub record GoesOn (j : Journal) (s : State) (store : Store) (calls : List MixedC
   pub invariant : Invariant (journal j (counted_in mixed_step counts_as (view_state s) store calls)) (view_state s') store'
 
 -- of a list that was made: it goes on from each journal that the invariant ties to the state and store before it
-abbrev pub GoesOnIfMade : State → Store → Option (List MixedCall) → RepliedList → Store → Type 0
+abbrev pub GoesOnIfMade : State → Store → Option (List MixedCall) → Answered ListReply → Store → Type 0
 GoesOnIfMade s store given r store' =
-    (calls : List MixedCall) → given ≡ some calls → r.reply ≡ Made → (j : Journal) → Invariant j (view_state s) store
+    (calls : List MixedCall) → given ≡ some calls → r.answer ≡ Made → (j : Journal) → Invariant j (view_state s) store
     → GoesOn j s store calls r.state store'
 
 -- ---- on the way
 
--- the words of a call's answer with the state
-abbrev pub row_answered : AnswerWords → State → RowAnswered
-row_answered words s = record { words = words; state = s }
-
 -- a call that was made, with what it gave: the words of its answer and the state, and the store then
-pub record CallMade (s : State) (store : Store) (call : MixedCall) (r : RowAnswered) (store' : Store) : Type 0 where
+pub record CallMade (s : State) (store : Store) (call : MixedCall) (r : Answered AnswerWords) (store' : Store) : Type 0 where
   pub answer : MixedReply
-  pub words : r.words ≡ answer_words answer
+  pub words : r.answer ≡ answer_words answer
   pub meaning : event_outcome answer (view_state r.state) store' ≡ mixed_step (view_state s) store call
   pub exact : event_outcome answer r.state store' ≡ exact_mixed_step s store call
 
 -- the call of a row was made; of a malformed row nothing is said
-abbrev pub RowMade : State → Store → Row → List ℕ → RowAnswered → Store → Type 0
+abbrev pub RowMade : State → Store → Row → List ℕ → Answered AnswerWords → Store → Type 0
 RowMade s store row bytes r store' = (call : MixedCall) → decoded_row row bytes ≡ some call → CallMade s store call r store'
 
 -- calls made one after the other from a state and a store, with what they left

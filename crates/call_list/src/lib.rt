@@ -10,18 +10,18 @@ ghost use Rattle.request.specs.Call.{call_of};
 ghost use Rattle.state.specs.View.{view_state};
 ghost use Rattle.four_state.specs.MixedLists.{of_twelve, of_four};
 ghost use Rattle.call_rows.specs.Rows.{decoded, is_given};
-ghost use Rattle.call_list.specs.WholeList.{replied, list_outcome, run_outcome, view_list_outcome, model_run_outcome, GoesOnIfMade};
-ghost use Rattle.call_list.specs.WholeList.{row_answered, CallMade, RowMade, RowsMade};
+ghost use Rattle.call_list.specs.WholeList.{list_outcome, run_outcome, view_list_outcome, model_run_outcome, GoesOnIfMade};
+ghost use Rattle.call_list.specs.WholeList.{CallMade, RowMade, RowsMade};
 
 use call_rows::answer_words::{AnswerWords, answer_words, old_answer_words};
-use call_rows::row::{MixedRequest, Row, RowRequest, row_at, row_block, row_request};
+use call_rows::row::{MixedRequest, Row, row_block, row_request};
 use call_rows::row_list::rows_well_formed;
 use four_state::call::{OldCall, old_call_after_check};
 use manager::call_after_check;
 use refusal::BAD_STATE;
 use request::Request;
 use soundness::sound::sound;
-use state::answer::Answer;
+use state::answer::{Answer, Answered, answer_with};
 use state::state::State;
 
 // What became of a list of calls: every call was made, or none was, because the list is malformed, the slice for its answers is too short,
@@ -34,29 +34,6 @@ pub enum ListReply {
     ShortAnswers,
 }
 
-// The reply for a list, with the state then.
-#[derive(Clone, Copy)]
-pub struct RepliedList {
-    pub reply: ListReply,
-    pub state: State,
-}
-
-// The two words of a call's answer, and the state then.
-#[derive(Clone, Copy)]
-pub struct RowAnswered {
-    pub words: AnswerWords,
-    pub state: State,
-}
-
-fn row_answered(words: AnswerWords, s: State) -> RowAnswered
-    ensures { result ≡ row_answered words s }
-{
-    RowAnswered {
-        words: words,
-        state: s,
-    }
-}
-
 // Makes a call of the twelve. Precondition, here and below: `is_sound` says whether the state is sound for the store; `make_all` checks it
 // before the first call, and every call leaves it so.
 fn make_twelve(
@@ -65,43 +42,44 @@ fn make_twelve(
     store: &mut [u8],
     request: Request,
     block: &[u8],
-) -> RowAnswered
+) -> Answered<AnswerWords>
     requires { is_sound ≡ sound_for (view_state s) (length store.old) }
     ensures { CallMade s store.old (of_twelve (call_of request block.now)) result store.new }
 {
     let made = call_after_check(s, is_sound, store, request, block);
-    let answer = made.answer;
-    let state = made.state;
-    row_answered(answer_words(answer), state)
+    answer_with(answer_words(made.answer), made.state)
 }
 
 // Makes a call of the old four, which writes no store.
-fn make_old(s: State, is_sound: bool, store: &[u8], old: OldCall) -> RowAnswered
+fn make_old(s: State, is_sound: bool, store: &[u8], old: OldCall) -> Answered<AnswerWords>
     requires { is_sound ≡ sound_for (view_state s) (length store.now) }
     ensures { CallMade s store.now (of_four old) result store.now }
 {
     let made = old_call_after_check(s, is_sound, store, old);
-    let state = made.state;
-    row_answered(old_answer_words(made.answer), state)
+    answer_with(old_answer_words(made.answer), made.state)
 }
 
 // Makes the call of a row. Of a malformed row nothing is said: `run` and `load_and_run` check all rows before the first call.
-fn make_call(s: State, is_sound: bool, store: &mut [u8], row: Row, bytes: &[u8]) -> RowAnswered
+fn make_call(
+    s: State,
+    is_sound: bool,
+    store: &mut [u8],
+    row: Row,
+    bytes: &[u8],
+) -> Answered<AnswerWords>
     requires { is_sound ≡ sound_for (view_state s) (length store.old) }
     ensures { RowMade s store.old row bytes.now result store.new }
 {
-    let RowRequest::WellFormed(request) = row_request(row, bytes.len()) else {
-        return row_answered(answer_words(Answer::Refused(BAD_STATE)), s);
-    };
-    match request {
-        MixedRequest::Twelve(twelve) => make_twelve(
+    match row_request(row, bytes.len()) {
+        Some(MixedRequest::Twelve(twelve)) => make_twelve(
             s,
             is_sound,
             store,
             twelve,
             row_block(row, bytes),
         ),
-        MixedRequest::Old(old) => make_old(s, is_sound, store, old),
+        Some(MixedRequest::Old(old)) => make_old(s, is_sound, store, old),
+        None => answer_with(answer_words(Answer::Refused(BAD_STATE)), s),
     }
 }
 
@@ -124,27 +102,14 @@ fn make_all(s: State, store: &mut [u8], words: &[u32], bytes: &[u8], answers: &m
         result store.new answers.new }
 {
     let is_sound = sound(s, store.len());
+    let (rows, _) = words.as_chunks::<6>();
     let mut state = s;
-    let mut i = 0;
-    let mut at = 0;
-    while i < words.len() {
-        let r = make_call(state, is_sound, store, row_at(words, i), bytes);
-        let given = r.words;
-        put_answer(answers, at, given);
-        state = r.state;
-        i += 6;
-        at += 2;
+    for (i, row) in rows.iter().enumerate() {
+        let made = make_call(state, is_sound, store, Row::from(*row), bytes);
+        put_answer(answers, 2 * i, made.answer);
+        state = made.state;
     }
     state
-}
-
-fn replied(reply: ListReply, s: State) -> RepliedList
-    ensures { result ≡ replied reply s }
-{
-    RepliedList {
-        reply: reply,
-        state: s,
-    }
 }
 
 // Makes a list of calls in rows of six words, with their blocks in a byte string, from a state and a store. The answers are two words for
@@ -156,7 +121,7 @@ pub fn run(
     words: &[u32],
     bytes: &[u8],
     answers: &mut [u32],
-) -> RepliedList
+) -> Answered<ListReply>
     ensures meaning { view_list_outcome (list_outcome result store.new answers.new)
         ≡ model_run_outcome (view_state s) store.old answers.old (decoded words.now bytes.now) }
     ensures exact { list_outcome result store.new answers.new
@@ -165,11 +130,11 @@ pub fn run(
         result store.new }
 {
     if !rows_well_formed(words, bytes) {
-        return replied(ListReply::Malformed, s);
+        return answer_with(ListReply::Malformed, s);
     }
     if words.len() / 3 > answers.len() {
-        return replied(ListReply::ShortAnswers, s);
+        return answer_with(ListReply::ShortAnswers, s);
     }
     let state = make_all(s, store, words, bytes, answers);
-    replied(ListReply::Made, state)
+    answer_with(ListReply::Made, state)
 }

@@ -4,10 +4,10 @@ ghost use Rattle.call_rows.specs.Rows.{decoded};
 ghost use Rattle.call_list.specs.WholeList.{list_outcome};
 ghost use Rattle.call_list.specs.Loaded.{load_and_run_outcome, DemandMetIfMade, LoadReplied};
 
-use crate::{ListReply, RepliedList, make_all, replied};
+use crate::{ListReply, make_all};
 use call_rows::row_list::rows_well_formed;
 use load::load;
-use state::answer::Answer;
+use state::answer::{Answer, Answered, answer_with};
 use state::state::State;
 
 // Loads, and then makes every call of the list, each with the state and store that the one before left. A malformed list, one with more
@@ -20,25 +20,25 @@ pub fn load_and_run(
     words: &[u32],
     bytes: &[u8],
     answers: &mut [u32],
-) -> RepliedList
+) -> Answered<ListReply>
     ensures exact { list_outcome result store.new answers.new
         ≡ load_and_run_outcome s list.now first store.old answers.old
         (decoded words.now bytes.now) }
-    ensures load_reply { LoadReplied s list.now first store.old result.reply }
+    ensures load_reply { LoadReplied s list.now first store.old result.answer }
     ensures demand3 { DemandMetIfMade s list.now first store.old answers.old
         (decoded words.now bytes.now) result store.new answers.new }
 {
     if !rows_well_formed(words, bytes) {
-        return replied(ListReply::Malformed, s);
+        return answer_with(ListReply::Malformed, s);
     }
     if words.len() / 3 > answers.len() {
-        return replied(ListReply::ShortAnswers, s);
+        return answer_with(ListReply::ShortAnswers, s);
     }
     let loaded = load(s, list, first, store);
     let answer = loaded.answer;
     let Answer::Done = answer else {
-        return replied(ListReply::BadLoad, loaded.state);
+        return answer_with(ListReply::BadLoad, loaded.state);
     };
     let state = make_all(loaded.state, store, words, bytes, answers);
-    replied(ListReply::Made, state)
+    answer_with(ListReply::Made, state)
 }

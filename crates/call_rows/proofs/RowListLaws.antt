@@ -1,21 +1,23 @@
 -- A list of words six at a time, as loops go along it. Assumes nothing.
-use Prim.Native.Nat.{ℕ, ◌+◌, ◌*◌, ◌-◌, ◌≤◌, ◌<◌}
+use Prim.Native.Nat.{ℕ, zero, suc, ◌+◌, ◌*◌, ◌/◌, ◌%◌, ◌≤◌, ◌<◌}
 use mathlib.Core.Path.{◌≡◌, refl, sym, ap, ◌∙◌}
-use mathlib.Core.Bool.{true, false}
+use mathlib.Core.Bool.{Bool, true, false, ◌&&◌}
 use mathlib.Core.List.{List, [], ◌∷◌}
-use mathlib.Core.Option.{Option, none, some, some-injective}
+use mathlib.Core.Option.{Option, none, some, map, some-injective}
 use native.Mathlib.Numerals.{add-one}
 use native.Mathlib.Omega.{arith}
-use lib.Dec.{leb}
-use lib.ListN.{length, drop, get_or, length-drop, drop_of_length-le}
+use lib.Dec.{eqb}
+use borrow.Author.Tests.{eqb-true, eqb-false}
+use lib.ListN.{length, drop, get_or, drop_of_length-le}
 use lib.Seq.{drop-cons}
-use borrow.Author.Tests.{leb-true, leb-false}
-use Rattle.base.proofs.Tests.{bool_cases, none-some}
+use Rattle.std.specs.Simd.{first_chunks}
+use Rattle.std.specs.List.{list_all}
+use Rattle.std.specs.Prelude as code
+use Rattle.std.specs.Prelude.{is_some}
+use Rattle.base.proofs.Tests.{none-some}
 use Rattle.four_state.specs.MixedLists.{MixedCall}
 use Rattle.call_rows.specs.declared.row.Row.{Row}
 use Rattle.call_rows.specs.declared.row.MixedRequest.{MixedRequest}
-use Rattle.call_rows.specs.declared.row.RowRequest.{RowRequest}
-use Rattle.call_rows.specs.declared.row.RowRequest.TheVariants.{WellFormed, Malformed}
 use Rattle.call_rows.specs.Row.{row, row_at, block_of, mixed_of, request_in, request_within, decoded_row}
 use Rattle.call_rows.specs.Rows.{before, decoded, is_given}
 
@@ -30,52 +32,44 @@ module _ (r : Row) (bytes : List ℕ) where
   unfolding decoded_row
   row-malformed e = rw e
 
--- ---- six words
+-- ---- rows of six words
 
-module _ (words : List ℕ) where
-  one_word : (i n : ℕ) → n ≡ i + 1 → i < length words → drop i words ≡ get_or words i 0 ∷ drop n words
-  one_word i n e h = rw (e, add-one, drop-cons words i 0 h)
+-- the calls of a list of rows
+unfoldable pub decoded_rows : List (List ℕ) → List ℕ → Option (List MixedCall)
+decoded_rows [] bytes = some []
+decoded_rows (row ∷ rows) bytes = before (decoded_row (row_at row 0) bytes) (decoded_rows rows bytes)
 
-  -- the words from i on begin with a row
-  pub six-words : (i : ℕ) → i + 6 ≤ length words
-      → drop i words
-      ≡ get_or words i 0
-      ∷ get_or words (i + 1) 0
-      ∷ get_or words (i + 2) 0
-      ∷ get_or words (i + 3) 0
-      ∷ get_or words (i + 4) 0
-      ∷ get_or words (i + 5) 0
-      ∷ drop (i + 6) words
-  six-words i h =
-      one_word i (i + 1) refl (omega arith)
-      ∙ ap (λ (l : List ℕ). get_or words i 0 ∷ l) (one_word (i + 1) (i + 2) (omega arith) (omega arith)
-      ∙ ap (λ (l : List ℕ). get_or words (i + 1) 0 ∷ l) (one_word (i + 2) (i + 3) (omega arith) (omega arith)
-      ∙ ap (λ (l : List ℕ). get_or words (i + 2) 0 ∷ l) (one_word (i + 3) (i + 4) (omega arith) (omega arith)
-      ∙ ap (λ (l : List ℕ). get_or words (i + 3) 0 ∷ l) (one_word (i + 4) (i + 5) (omega arith) (omega arith)
-      ∙ ap (λ (l : List ℕ). get_or words (i + 4) 0 ∷ l) (one_word (i + 5) (i + 6) (omega arith) (omega arith))))))
+rows-of : (k : ℕ) (words bytes : List ℕ) → length words ≡ 6 * k → decoded words bytes ≡ decoded_rows (first_chunks 6 k words) bytes
+unfolding decoded decoded_rows
+rows-of zero [] bytes h = refl
+rows-of zero (a ∷ words) bytes h = absurd (omega arith)
+rows-of (suc k) [] bytes h = absurd (omega arith)
+rows-of (suc k) (a ∷ []) bytes h = absurd (omega arith)
+rows-of (suc k) (a ∷ b ∷ []) bytes h = absurd (omega arith)
+rows-of (suc k) (a ∷ b ∷ c ∷ []) bytes h = absurd (omega arith)
+rows-of (suc k) (a ∷ b ∷ c ∷ d ∷ []) bytes h = absurd (omega arith)
+rows-of (suc k) (a ∷ b ∷ c ∷ d ∷ e ∷ []) bytes h = absurd (omega arith)
+rows-of (suc k) (a ∷ b ∷ c ∷ d ∷ e ∷ f ∷ words) bytes h = ap (before (decoded_row (row a b c d e f) bytes)) (rows-of k words bytes (omega arith))
 
-  pub first-row : (bytes : List ℕ) (i : ℕ) → i + 6 ≤ length words
-      → decoded (drop i words) bytes ≡ before (decoded_row (row_at words i) bytes) (decoded (drop (i + 6) words) bytes)
-  unfolding decoded
-  first-row bytes i h = ap (λ (l : List ℕ). decoded l bytes) (six-words i h)
+before-none : (o : Option MixedCall) → before o none ≡ none
+before-none none = refl
+before-none (some call) = refl
 
--- fewer than six words are no row
-few_words : (words bytes : List ℕ) → 0 < length words → length words < 6 → decoded words bytes ≡ none
+-- words left over make the list malformed
+pub left-over : (words bytes : List ℕ) → (length words % 6 ≡ 0 → ⊥) → decoded words bytes ≡ none
 unfolding decoded
-few_words [] bytes h k = absurd (omega arith)
-few_words (a ∷ []) bytes h k = refl
-few_words (a ∷ b ∷ []) bytes h k = refl
-few_words (a ∷ b ∷ c ∷ []) bytes h k = refl
-few_words (a ∷ b ∷ c ∷ d ∷ []) bytes h k = refl
-few_words (a ∷ b ∷ c ∷ d ∷ e ∷ []) bytes h k = refl
-few_words (a ∷ b ∷ c ∷ d ∷ e ∷ f ∷ words) bytes h k = absurd (omega arith)
+left-over [] bytes h = absurd (h refl)
+left-over (a ∷ []) bytes h = refl
+left-over (a ∷ b ∷ []) bytes h = refl
+left-over (a ∷ b ∷ c ∷ []) bytes h = refl
+left-over (a ∷ b ∷ c ∷ d ∷ []) bytes h = refl
+left-over (a ∷ b ∷ c ∷ d ∷ e ∷ []) bytes h = refl
+left-over (a ∷ b ∷ c ∷ d ∷ e ∷ f ∷ words) bytes h =
+    ap (before (decoded_row (row a b c d e f) bytes)) (left-over words bytes (λ z. h (omega arith))) ∙ before-none (decoded_row (row a b c d e f) bytes)
 
-pub words-left-over : (words bytes : List ℕ) (i : ℕ) → i < length words → length words - i < 6 → decoded (drop i words) bytes ≡ none
-words-left-over words bytes i h k = few_words (drop i words) bytes (rw length-drop (omega arith)) (rw length-drop k)
-
-pub no-words-left : (words bytes : List ℕ) (i : ℕ) → length words ≤ i → decoded (drop i words) bytes ≡ some []
-unfolding decoded
-no-words-left words bytes i h = ap (λ (l : List ℕ). decoded l bytes) (drop_of_length-le words {i = i} h)
+module _ (words bytes : List ℕ) (rows : List (List ℕ)) (cut : rows ≡ first_chunks 6 (length words / 6) words) where
+  pub in-rows : length words % 6 ≡ 0 → decoded words bytes ≡ decoded_rows rows bytes
+  in-rows h = rows-of (length words / 6) words bytes (omega arith) ∙ ap (λ (l : List (List ℕ)). decoded_rows l bytes) (sym cut)
 
 -- ---- a list that is given begins with a call, and what is left is given
 
@@ -92,18 +86,16 @@ first_of (some call) none calls e = none-some e
 first_of (some call) (some rest) calls e =
     record { call = call; rest = rest; here = refl; later = refl; both = sym (some-injective _ _ e) }
 
-module _ (words bytes : List ℕ) (i : ℕ) (calls : List MixedCall) (given : decoded (drop i words) bytes ≡ some calls) where
-  -- while words are left, a whole row is
-  pub whole_row : i < length words → i + 6 ≤ length words
-  whole_row h =
-      bool_cases (leb (i + 6) (length words)) (λ t. leb-true (i + 6) (length words) t)
-      λ f. none-some (sym (words-left-over words bytes i h (omega (arith, leb-false (i + 6) (length words) f))) ∙ given)
+module _ (rows : List (List ℕ)) (bytes : List ℕ) (n : ℕ) (calls : List MixedCall) (given : decoded_rows (drop n rows) bytes ≡ some calls) where
+  pub next-call : n < length rows → First (decoded_row (row_at (get_or rows n []) 0) bytes) (decoded_rows (drop (n + 1) rows) bytes) calls
+  unfolding decoded_rows
+  next-call h =
+      let e : drop n rows ≡ get_or rows n [] ∷ drop (n + 1) rows = drop-cons rows n [] h ∙ rw add-one in
+      first_of _ _ calls (rw e at given)
 
-  pub next-call : i + 6 ≤ length words → First (decoded_row (row_at words i) bytes) (decoded (drop (i + 6) words) bytes) calls
-  next-call whole = first_of _ _ calls (sym (first-row words bytes i whole) ∙ given)
-
-  pub no-calls-left : length words ≤ i → calls ≡ []
-  no-calls-left h = some-injective _ _ (sym given ∙ no-words-left words bytes i h)
+  pub no-calls-left : length rows ≤ n → calls ≡ []
+  unfolding decoded_rows
+  no-calls-left h = some-injective _ _ (sym given ∙ ap (λ (l : List (List ℕ)). decoded_rows l bytes) (drop_of_length-le rows {i = n} h))
 
 -- six words for each call
 pub six-for-each : (words bytes : List ℕ) (calls : List MixedCall) → decoded words bytes ≡ some calls → length words ≡ 6 * length calls
@@ -118,33 +110,47 @@ six-for-each (a ∷ b ∷ c ∷ d ∷ e ∷ f ∷ words) bytes calls g =
     let first = first_of (decoded_row (row a b c d e f) bytes) (decoded words bytes) calls g in
     omega (arith, ap length first.both, six-for-each words bytes first.rest first.later)
 
--- ---- the check: the whole list is given exactly if what is left is
+-- ---- the check: the whole list is given exactly if each row has a request
 
-given-behind : (call : MixedCall) (calls : Option (List MixedCall)) → is_given (before (some call) calls) ≡ is_given calls
-given-behind call none = refl
-given-behind call (some calls) = refl
+abbrev pub is_there : Option MixedRequest → Bool
+is_there none = false
+is_there (some request) = true
 
-module _ (words bytes : List ℕ) (i : ℕ) (same : is_given (decoded words bytes) ≡ is_given (decoded (drop i words) bytes)) where
-  pub check-left-over : i < length words → length words - i < 6 → false ≡ is_given (decoded words bytes)
-  check-left-over h k = sym (same ∙ ap is_given (words-left-over words bytes i h k))
+unfoldable pub has_request : List ℕ → List ℕ → Bool
+has_request bytes words = is_there (request_within (row_at words 0) (length bytes))
 
-  pub check-end : length words ≤ i → true ≡ is_given (decoded words bytes)
-  check-end h = sym (same ∙ ap is_given (no-words-left words bytes i h))
+shown-there : (x : code.Option MixedRequest) → is_some x ≡ is_there (request_in x)
+shown-there (code.Some request) = refl
+shown-there code.None = refl
 
-  -- r is the row at i, and answer what its request is told to be
-  module _ (whole : i + 6 ≤ length words) (r : Row) (is : r ≡ row_at words i) (answer : RowRequest) where
-    here : (o : Option MixedRequest) → request_in answer ≡ o → request_in answer ≡ request_within r (length bytes)
-        → request_within (row_at words i) (length bytes) ≡ o
-    here o e told = ap (λ (x : Row). request_within x (length bytes)) (sym is) ∙ sym told ∙ e
+-- the code's test of a row
+module _ (bytes words : List ℕ) (answer : code.Option MixedRequest) where
+  pub told-request : request_in answer ≡ request_within (row_at words 0) (length bytes) → is_some answer ≡ has_request bytes words
+  unfolding has_request
+  told-request told = shown-there answer ∙ ap is_there told
 
-    pub check-stops : answer ≡ Malformed → request_in answer ≡ request_within r (length bytes) → false ≡ is_given (decoded words bytes)
-    check-stops e told =
-        sym (same ∙ ap is_given (first-row words bytes i whole
-        ∙ ap (λ (x : Option MixedCall). before x (decoded (drop (i + 6) words) bytes)) (row-malformed (row_at words i) bytes (here none (ap request_in e) told))))
+one-given : (f : MixedRequest → MixedCall) (o : Option MixedRequest) (calls : Option (List MixedCall))
+    → is_given (before (map f o) calls) ≡ (is_there o && is_given calls)
+one-given f none calls = refl
+one-given f (some request) none = refl
+one-given f (some request) (some calls) = refl
 
-    pub check-goes-on : (request : MixedRequest) → answer ≡ WellFormed request → request_in answer ≡ request_within r (length bytes)
-        → is_given (decoded words bytes) ≡ is_given (decoded (drop (i + 6) words) bytes)
-    check-goes-on request e told =
-        same ∙ ap is_given (first-row words bytes i whole
-        ∙ ap (λ (x : Option MixedCall). before x (decoded (drop (i + 6) words) bytes)) (row-decoded (row_at words i) bytes request (here (some request) (ap request_in e) told)))
-        ∙ given-behind _ (decoded (drop (i + 6) words) bytes)
+given-rows : (bytes : List ℕ) (rows : List (List ℕ)) → is_given (decoded_rows rows bytes) ≡ list_all (has_request bytes) rows
+unfolding decoded_rows decoded_row has_request
+given-rows bytes [] = refl
+given-rows bytes (row ∷ rows) =
+    one-given (λ request. mixed_of request (block_of (row_at row 0) bytes)) (request_within (row_at row 0) (length bytes)) (decoded_rows rows bytes)
+    ∙ ap (λ rest. has_request bytes row && rest) (given-rows bytes rows)
+
+-- rest is what is left over, and empty the code's test of it
+module _ (words bytes : List ℕ) (rest : ℕ) (left : rest ≡ length words % 6) (empty : Bool) (told : empty ≡ eqb rest 0) where
+  pub check-left-over : empty ≡ false → empty ≡ is_given (decoded words bytes)
+  check-left-over e =
+      let other : length words % 6 ≡ 0 → ⊥ = λ z. eqb-false rest 0 (sym told ∙ e) (left ∙ z) in
+      e ∙ sym (ap is_given (left-over words bytes other))
+
+  pub check-rows : empty ≡ true → (rows : List (List ℕ)) (r : Bool) → rows ≡ first_chunks 6 (length words / 6) words
+      → r ≡ list_all (has_request bytes) rows → r ≡ is_given (decoded words bytes)
+  check-rows e rows r cut all =
+      let none_left = eqb-true rest 0 (sym told ∙ e) in
+      all ∙ sym (ap is_given (in-rows words bytes rows cut (sym left ∙ none_left)) ∙ given-rows bytes rows)

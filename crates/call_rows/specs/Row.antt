@@ -1,6 +1,7 @@
 -- A call in numbers: a row of six words. Calls have the numbers 0 to 11, in the order in which document 01 lists "the twelve changing
 -- calls", and the old four 12 to 15, in the order in which their answers are listed: Activate, Cancel, Revert, Rollback.
 use Rattle.std.specs.Prelude.{ℕ, ◌+◌, Bool, cond, ◌&&◌, List, [], ◌∷◌, eqb, leb, length, take, drop, get_or}
+use Rattle.std.specs.Prelude as code
 use Rattle.std.proofs.Math.Option.{Option, none, some, map}
 use Rattle.request.specs.declared.Request.TheVariants.{TransferStart, TransferData, TransferExit, DeleteTransfer, Process, Work, Cancel, Revert, Activate, Rollback, Finish, Report}
 use Rattle.request.specs.Call.{call_of}
@@ -9,8 +10,6 @@ use Rattle.four_state.specs.MixedLists.{MixedCall, of_twelve, of_four}
 use Rattle.call_rows.specs.declared.row.Row.{Row}
 use Rattle.call_rows.specs.declared.row.MixedRequest.{MixedRequest}
 use Rattle.call_rows.specs.declared.row.MixedRequest.TheVariants.{Twelve, Old}
-use Rattle.call_rows.specs.declared.row.RowRequest.{RowRequest}
-use Rattle.call_rows.specs.declared.row.RowRequest.TheVariants.{WellFormed, Malformed}
 
 -- the number of the call, a reserved word, the call's two numbers, and the start and length of its block
 abbrev pub row : ℕ → ℕ → ℕ → ℕ → ℕ → ℕ → Row
@@ -31,10 +30,10 @@ abbrev pub mixed_of : MixedRequest → List ℕ → MixedCall
 mixed_of (Twelve request) block = of_twelve (call_of request block)
 mixed_of (Old call) block = of_four call
 
--- the request for each case of the enum
-abbrev pub request_in : RowRequest → Option MixedRequest
-request_in (WellFormed request) = some request
-request_in Malformed = none
+-- what the code returns, as the definitions below have it
+abbrev pub request_in : code.Option MixedRequest → Option MixedRequest
+request_in (code.Some request) = some request
+request_in code.None = none
 
 abbrev pub request_if : Bool → MixedRequest → Option MixedRequest
 request_if holds request = cond holds (some request) none

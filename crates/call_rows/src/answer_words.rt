@@ -16,13 +16,10 @@ pub struct AnswerWords {
 fn two_words(kind: u32, value: u32) -> AnswerWords
     ensures { result ≡ words kind value }
 {
-    AnswerWords {
-        kind: kind,
-        value: value,
-    }
+    AnswerWords { kind, value }
 }
 
-// Gives the two words of an answer of the twelve.
+// Returns the two words of an answer of the twelve.
 pub fn answer_words(answer: Answer) -> AnswerWords
     ensures { result ≡ answer_words (by_twelve (reply_of answer)) }
 {
@@ -43,7 +40,7 @@ pub fn answer_words(answer: Answer) -> AnswerWords
     }
 }
 
-// Gives the two words of an answer of the old four.
+// Returns the two words of an answer of the old four.
 pub fn old_answer_words(answer: u8) -> AnswerWords
     ensures { result ≡ answer_words (by_four answer) }
 {

@@ -7,8 +7,7 @@ pub fn bytes(rt: &HostRuntime, s: &[u8]) -> io::Result<()> {
 }
 
 pub fn byte(rt: &HostRuntime, b: u8) -> io::Result<()> {
-    let one = [b; 1];
-    rt.write_all(&one)
+    rt.write_all(&[b])
 }
 
 pub fn number(rt: &HostRuntime, n: u32) -> io::Result<()> {
@@ -29,16 +28,13 @@ pub fn length(rt: &HostRuntime, n: usize) -> io::Result<()> {
 // Prints a sentence with the fields of a case behind the first, one for each `%`.
 pub fn with_fields(rt: &HostRuntime, sentence: &[u8], case: &[u8]) -> io::Result<()> {
     let mut k = 1;
-    let mut i = 0;
-    while i < sentence.len() {
-        let b = sentence[i];
-        if b == b'%' {
+    for b in sentence {
+        if *b == b'%' {
             bytes(rt, field(case, k))?;
             k += 1;
         } else {
-            byte(rt, b)?;
+            byte(rt, *b)?;
         }
-        i += 1;
     }
     Ok(())
 }

@@ -1,12 +1,13 @@
--- The lines of the listed actions as the code goes along them: what is left of them behind i entries. The whole text is the model's
+-- The lines of the listed entries as the code goes along them: what is left of them behind i entries. The whole text is the model's
 -- ChangeInfo of a state with the session, and no longer than that is. Assumes nothing.
 use Prim.Native.Nat.{ℕ, ◌+◌, ◌≤◌, ◌<◌}
 use mathlib.Core.Path.{◌≡◌, refl, ap, ◌∙◌}
 use mathlib.Core.Bool.{true}
 use mathlib.Core.List.{List, [], ◌++◌, map, map-map}
 use native.Mathlib.Omega.{arith}
-use lib.ListN.{length, take, drop, get_or, length-append}
-use Rattle.base.proofs.Counted.{from_step, from_end}
+use native.Mathlib.Numerals.{add-one}
+use lib.ListN.{length, take, drop, get_or, length-append, drop_of_length-le}
+use lib.Seq.{drop-cons}
 use Rattle.text.specs.Put.{Put}
 use Rattle.text.proofs.PutLaws.{put-length, put_then}
 use Rattle.rows.specs.Line.{line_text}
@@ -29,25 +30,31 @@ use Rattle.change_info.specs.Changes.{change_names, change_line, listed_actions,
 abbrev entry_action : Entry → Action
 entry_action e = view_action e.action
 
-module _ (session : Session) (few : session.count ≤ entries_most) (long : length session.entries ≡ entries_most) where
-  listed-first : listed_actions session ≡ map entry_action (take session.count session.entries)
-  listed-first = ap model.actions (entries-few session few) ∙ map-map _ view_entry (take session.count session.entries)
+-- the entries that the code goes along
+abbrev pub listed : Session → List Entry
+listed session = take session.count session.entries
 
-  module _ (i : ℕ) where
-    pub lines_left : i < session.count → change_lines (drop i (listed_actions session))
-        ≡ change_line (view_action (get_or session.entries i no_entry).action) ++ change_lines (drop (i + 1) (listed_actions session))
-    unfolding change_lines
-    lines_left h = rw (listed-first, from_step entry_action session.entries session.count (omega arith) i no_entry h)
+-- the lines of entries
+abbrev pub lines_of : List Entry → List ℕ
+lines_of es = change_lines (map entry_action es)
 
-    pub lines-over : session.count ≤ i → change_lines (drop i (listed_actions session)) ≡ []
-    unfolding change_lines
-    lines-over h = rw (listed-first, from_end entry_action session.entries session.count (omega arith) i h)
+pub listed-lines : (session : Session) → session.count ≤ entries_most → change_lines (listed_actions session) ≡ lines_of (listed session)
+listed-lines session few =
+    ap change_lines (ap model.actions (entries-few session few) ∙ map-map _ view_entry (listed session))
 
-    pub lines-length-left : i < session.count → length (change_lines (drop i (listed_actions session)))
-        ≡ length (change_line (view_action (get_or session.entries i no_entry).action)) + length (change_lines (drop (i + 1) (listed_actions session)))
-    lines-length-left h =
-        ap length (lines_left h)
-        ∙ length-append (change_line (view_action (get_or session.entries i no_entry).action)) (change_lines (drop (i + 1) (listed_actions session)))
+module _ (es : List Entry) (i : ℕ) where
+  pub lines_left : i < length es → lines_of (drop i es) ≡ change_line (view_action (get_or es i no_entry).action) ++ lines_of (drop (i + 1) es)
+  unfolding change_lines
+  lines_left h = rw (drop-cons es i no_entry h, add-one)
+
+  pub lines-over : length es ≤ i → lines_of (drop i es) ≡ []
+  unfolding change_lines
+  lines-over h = rw (drop_of_length-le es h)
+
+  pub lines-length-left : i < length es
+      → length (lines_of (drop i es)) ≡ length (change_line (view_action (get_or es i no_entry).action)) + length (lines_of (drop (i + 1) es))
+  lines-length-left h =
+      ap length (lines_left h) ∙ length-append (change_line (view_action (get_or es i no_entry).action)) (lines_of (drop (i + 1) es))
 
 pub text-length-parts : (session : Session) → length (changes_text session) ≡ 15 + length (change_lines (listed_actions session))
 unfolding changes_text line_text

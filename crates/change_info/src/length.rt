@@ -1,32 +1,20 @@
 // Counts the bytes of the changes of a session as text.
 ghost use Rattle.std.specs.Prelude.{◌≡◌, ◌≤◌, length};
 ghost use Rattle.actions.specs.View.{view_action};
-ghost use Rattle.model.specs.Reading.{change_word, change_info_most};
+ghost use Rattle.model.specs.Reading.{change_info_most};
 ghost use Rattle.state.specs.View.{entries_most};
 ghost use Rattle.change_info.specs.Changes.{change_line, changes_text};
 
-use actions::action::{Action, Change};
+use crate::word::word;
+use actions::action::Action;
 use state::session::Session;
 use text::write::number_length;
-
-fn word_length(a: Action) -> usize
-    ensures meaning { result ≡ length (change_word (view_action a)) }
-    ensures most { result ≤ 7 }
-{
-    let change = a.change;
-    match change {
-        Change::Install => 5,
-        Change::Update => 7,
-        Change::Remove => 7,
-    }
-}
 
 // Counts the bytes of the line of an action: part number and word, the comma between them and the LF.
 fn change_length(a: Action) -> usize
     ensures { result ≡ length (change_line (view_action a)) }
 {
-    let cluster = a.cluster;
-    number_length(cluster.part) + word_length(a) + 2
+    number_length(a.cluster.part) + word(a).len() + 2
 }
 
 // Counts the bytes of the names line and the lines of the listed actions. Precondition: at most 16 actions are listed, and the text has at
@@ -35,13 +23,9 @@ pub fn changes_length(session: Session) -> usize
     requires { (session.count ≤ entries_most) × (length (changes_text session) ≤ change_info_most) }
     ensures { result ≡ length (changes_text session) }
 {
-    let count = session.count;
-    let mut total: usize = 15;
-    let mut i = 0;
-    while i < count {
-        let entry = session.entries[i];
+    let mut total = 15;
+    for entry in &session.entries[..session.count] {
         total += change_length(entry.action);
-        i += 1;
     }
     total
 }

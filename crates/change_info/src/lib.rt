@@ -2,6 +2,7 @@
 #![tactic(auto)]
 
 mod length;
+mod word;
 mod write;
 
 ghost use Rattle.std.specs.Prelude.{◌≡◌, true, ◌≤◌, length};
@@ -29,8 +30,7 @@ fn report_changes(session: Session, buffer: &mut [u8]) -> ReadingReply
     if buffer.len() < needed {
         return ReadingReply::ShortBuffer(needed);
     }
-    let written = write_changes(buffer, session);
-    ReadingReply::Given(written)
+    ReadingReply::Given(write_changes(buffer, session))
 }
 
 // Answers ChangeInfo. Precondition: the state is sound; `change_info` checks that before.
@@ -38,8 +38,7 @@ fn change_info_on_sound(s: State, store: &[u8], buffer: &mut [u8]) -> ReadingRep
     requires { sound_for (view_state s) (length store.now) ≡ true }
     ensures { view_report result buffer.new ≡ report_on_sound (change_info (view_state s)) buffer.old }
 {
-    let session = s.session;
-    report_changes(session, buffer)
+    report_changes(s.session, buffer)
 }
 
 pub fn change_info(s: State, store: &[u8], buffer: &mut [u8]) -> ReadingReply

@@ -3,36 +3,23 @@
 ghost use Rattle.std.specs.Prelude.{◌+◌, ◌≤◌, length};
 ghost use Rattle.text.specs.Put.{Put};
 ghost use Rattle.actions.specs.View.{view_action};
-ghost use Rattle.model.specs.Reading.{change_word, change_lines};
+ghost use Rattle.model.specs.Reading.{change_lines};
 ghost use Rattle.state.specs.View.{entries_most};
 ghost use Rattle.change_info.specs.Changes.{change_line, listed_actions, changes_text};
 
-use actions::action::{Action, Change};
+use crate::word::word;
+use actions::action::Action;
 use state::session::Session;
 use text::write::{put_bytes, put_number};
-
-// Puts the word of an action: "Added, Updated or Removed".
-fn put_word(buffer: &mut [u8], at: usize, a: Action) -> usize
-    requires { at + length (change_word (view_action a)) ≤ length buffer.old }
-    ensures { Put buffer.old at (change_word (view_action a)) result buffer.new }
-{
-    let change = a.change;
-    match change {
-        Change::Install => put_bytes(buffer, at, b"Added"),
-        Change::Update => put_bytes(buffer, at, b"Updated"),
-        Change::Remove => put_bytes(buffer, at, b"Removed"),
-    }
-}
 
 // Puts the line of an action.
 fn put_change(buffer: &mut [u8], at: usize, a: Action) -> usize
     requires { at + length (change_line (view_action a)) ≤ length buffer.old }
     ensures { Put buffer.old at (change_line (view_action a)) result buffer.new }
 {
-    let cluster = a.cluster;
-    let behind_part = put_number(buffer, at, cluster.part);
+    let behind_part = put_number(buffer, at, a.cluster.part);
     buffer[behind_part] = b',';
-    let behind_word = put_word(buffer, behind_part + 1, a);
+    let behind_word = put_bytes(buffer, behind_part + 1, word(a));
     buffer[behind_word] = b'\n';
     behind_word + 1
 }
@@ -42,13 +29,9 @@ fn put_changes(buffer: &mut [u8], from: usize, session: Session) -> usize
     requires { (session.count ≤ entries_most) × (from + length (change_lines (listed_actions session)) ≤ length buffer.old) }
     ensures { Put buffer.old from (change_lines (listed_actions session)) result buffer.new }
 {
-    let count = session.count;
     let mut at = from;
-    let mut i = 0;
-    while i < count {
-        let entry = session.entries[i];
+    for entry in &session.entries[..session.count] {
         at = put_change(buffer, at, entry.action);
-        i += 1;
     }
     at
 }

@@ -81,7 +81,7 @@ fn add_byte(table: &[u8], sums: Sums, byte: u8) -> Sums
 {
     let c0 = remainder_255(table, sums.c0, byte as u32);
     let c1 = remainder_255(table, sums.c1, c0);
-    Sums { c0: c0, c1: c1 }
+    Sums { c0, c1 }
 }
 
 // Gives the pair after the bytes of a part. The table is copied before the first byte: read from the constant, it would be built anew at
@@ -96,10 +96,8 @@ fn add_bytes(sums: Sums, part: &[u8]) -> Sums
     }
     let table = REMAINDERS;
     let mut so_far = sums;
-    let mut i = 0;
-    while i < part.len() {
-        so_far = add_byte(&table, so_far, part[i]);
-        i += 1;
+    for b in part {
+        so_far = add_byte(&table, so_far, *b);
     }
     so_far
 }

@@ -12,7 +12,6 @@ use Rattle.model.proofs.examples.Open.{computing}
 use Rattle.std.specs.Prelude.{Ok, Err, Result}
 use Rattle.std.specs.declared.io.Error.{Error}
 use Rattle.base.proofs.Tables.{◌gives◌, AllHold}
-use Rattle.clist.specs.declared.input.PartRead.TheVariants.{Bytes, Ended, Failed}
 use Rattle.clist.specs.Answer.{answer_to, ReadInto}
 use Rattle.clist.specs.Input.{part_read}
 
@@ -43,5 +42,5 @@ module _ (room : ℕ) (input : List ℕ) where
 -- what a read into a buffer of 4 bytes answered: an error, the end, and counts at both ends and above
 module _ (e : Error) where
   reads : AllHold (λ (got : Result ℕ Error). part_read got 4)
-      (Err e gives Failed e ∷ Ok 0 gives Ended ∷ Ok 1 gives Bytes 1 ∷ Ok 4 gives Bytes 4 ∷ Ok 5 gives Bytes 4 ∷ [])
+      (Err e gives Err e ∷ Ok 0 gives Ok 0 ∷ Ok 1 gives Ok 1 ∷ Ok 4 gives Ok 4 ∷ Ok 5 gives Ok 4 ∷ [])
   reads = refl

@@ -105,7 +105,7 @@ module _ (s : model.State) (store : Store) (ok : sound s store ≡ true) (old ne
 -- ---- Load in code: it answers Done or refuses by 20
 
 -- what the contract of `load` says of its answer and the store then
-module _ (input : List ℕ) (s : State) (r : Answered) (after : Store)
+module _ (input : List ℕ) (s : State) (r : Answered Answer) (after : Store)
     (loads : (view_outcome (outcome r after) ≡ loading.load (view_state s) input first_id [])
     × ((outcome r after ≡ load s input first_id []) × SoundIfAccepted (outcome r after))) where
   is-printed : (given : model.State) → answer_to given input ≡ printed (reply_of r.answer) (view_state r.state)

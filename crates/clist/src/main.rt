@@ -5,7 +5,7 @@
 mod input;
 mod print;
 
-use crate::input::{InputRead, read_parts};
+use crate::input::read_parts;
 use crate::print::put_answer_to_read;
 use cluster_list::limits::{READ_LIST_MOST, WRITTEN_LIST_MOST};
 use std::io;
@@ -15,8 +15,8 @@ fn main(rt: HostRuntime) -> io::Result<()> {
     let mut read = [0u8; READ_LIST_MOST + 1];
     let mut part = [0u8; 4096];
     let count = match read_parts(&rt, &mut read, &mut part) {
-        InputRead::Bytes(count) => count,
-        InputRead::Failed(e) => return rt.eprintln(format_args!("clist: standard input: {e}")),
+        Ok(count) => count,
+        Err(e) => return rt.eprintln(format_args!("clist: standard input: {e}")),
     };
     let mut answer = [0u8; WRITTEN_LIST_MOST];
     let end = put_answer_to_read(&read, count, &mut answer);

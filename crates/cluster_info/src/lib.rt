@@ -31,8 +31,7 @@ fn report_table(table: Table, buffer: &mut [u8]) -> ReadingReply
     if buffer.len() < needed {
         return ReadingReply::ShortBuffer(needed);
     }
-    let written = write_list(buffer, table);
-    ReadingReply::Given(written)
+    ReadingReply::Given(write_list(buffer, table))
 }
 
 // Answers ClusterInfo. Precondition: the state is sound; `cluster_info` checks that before.
@@ -40,10 +39,7 @@ fn cluster_info_on_sound(s: State, store: &[u8], buffer: &mut [u8]) -> ReadingRe
     requires { sound_for (view_state s) (length store.now) ≡ true }
     ensures { view_report result buffer.new ≡ report_on_sound (cluster_info (view_state s)) buffer.old }
 {
-    let phase = s.phase;
-    let session = s.session;
-    let table = running(phase, session);
-    report_table(table, buffer)
+    report_table(running(s.phase, s.session), buffer)
 }
 
 pub fn cluster_info(s: State, store: &[u8], buffer: &mut [u8]) -> ReadingReply

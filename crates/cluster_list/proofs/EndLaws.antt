@@ -10,6 +10,7 @@ use lib.Dec.{leb}
 use lib.ListN.{length, length-append}
 use borrow.Author.Tests.{leb-true, leb-false}
 use Rattle.base.proofs.Tests.{cond_cases}
+use Rattle.std.specs.Prelude.{Option as CodeOption, Some, None}
 use Rattle.text.specs.declared.version.Version.{Version}
 use Rattle.clusters.specs.declared.cluster.Need.{Need}
 use Rattle.clusters.specs.declared.cluster.Cluster.{Cluster as ClusterStruct}
@@ -19,7 +20,6 @@ use Rattle.clusters.specs.Table.{Table, clusters_most}
 use Rattle.clusters.specs.Struct.{struct_cluster, struct_table}
 use Rattle.clusters.specs.Exact.{put_at, append, with_need as struct_with_need}
 use Rattle.clusters.proofs.Structs.{struct-with-need, struct-append, struct-at-last}
-use Rattle.cluster_list.specs.declared.cells.OptionalNeed.{OptionalNeed}
 use Rattle.cluster_list.specs.declared.value_line.LineSays.{LineSays}
 use Rattle.cluster_list.specs.declared.value_line.LineSays.TheVariants as says
 use Rattle.cluster_list.specs.declared.adding.TableEnd.{TableEnd}
@@ -43,14 +43,11 @@ split (c ∷ d ∷ t) h =
 
 -- ---- what is answered
 
-not-added : (y : TableEnd) (o : Option Table) → y ≡ end_of [] → o ≡ none → y ≡ end_read o
-not-added y o e f = rw f e
-
 now-last : (o : Option Table) (front : Table) (c : Cluster) (x : ClusterStruct) (count : ℕ) → o ≡ some (front ++ c ∷ []) → x ≡ struct_cluster c
-    → count ≡ length front + 1 → record { last = x; count = count } ≡ end_read o
+    → count ≡ length front + 1 → Some (record { last = x; count = count }) ≡ end_read o
 unfolding end_of
 now-last o front c x count e f g =
-    ap₂ {C = TableEnd} (λ (d : ClusterStruct) (n : ℕ). record { last = d; count = n })
+    ap₂ {C = CodeOption TableEnd} (λ (d : ClusterStruct) (n : ℕ). Some (record { last = d; count = n }))
     (f ∙ ap struct_cluster (sym (last-cluster front c))) (g ∙ sym (length-append front (c ∷ [])))
     ∙ ap end_read (sym e)
 
@@ -64,8 +61,8 @@ module _ (t : Table) (end : TableEnd) (e : end ≡ end_of t) where
   same_count = ap (λ (x : TableEnd). x.count) e
 
   module _ (c : Cluster) where
-    pub no-room-for-cluster : (y : TableEnd) → y ≡ end_of [] → 64 ≤ end.count → y ≡ end_read (cluster_added t c)
-    no-room-for-cluster y q h = not-added y (cluster_added t c) q (cluster-full t c (omega (arith, same_count)))
+    pub no-room-for-cluster : 64 ≤ end.count → None ≡ end_read (cluster_added t c)
+    no-room-for-cluster h = rw (cluster-full t c (omega (arith, same_count)))
 
     module _ (h : end.count < 64) where
       few : length t < clusters_most
@@ -75,17 +72,17 @@ module _ (t : Table) (end : TableEnd) (e : end ≡ end_of t) where
       unfolding last_part struct_cluster
       same-part = ap (λ (d : ClusterStruct). d.part) same-last
 
-      pub cluster-too-low : (y : TableEnd) → y ≡ end_of [] → c.part ≤ end.last.part → y ≡ end_read (cluster_added t c)
-      cluster-too-low y q o = not-added y (cluster_added t c) q (cluster-not-above t c few (omega (arith, same-part)))
+      pub cluster-too-low : c.part ≤ end.last.part → None ≡ end_read (cluster_added t c)
+      cluster-too-low o = rw (cluster-not-above t c few (omega (arith, same-part)))
 
       pub cluster-put : (x : ClusterStruct) → end.last.part < c.part → x ≡ struct_cluster c
-          → record { last = x; count = end.count + 1 } ≡ end_read (cluster_added t c)
+          → Some (record { last = x; count = end.count + 1 }) ≡ end_read (cluster_added t c)
       cluster-put x o q =
           now-last (cluster_added t c) t c x (end.count + 1) (cluster-added t c few (omega (arith, same-part))) q (omega (arith, same_count))
 
   module _ (n : Need) where
-    pub no-cluster-for-need : (y : TableEnd) → y ≡ end_of [] → end.count < 1 → y ≡ end_read (need_added t n)
-    no-cluster-for-need y q h = not-added y (need_added t n) q (go t (omega (arith, same_count)))
+    pub no-cluster-for-need : end.count < 1 → None ≡ end_read (need_added t n)
+    no-cluster-for-need h = rw (go t (omega (arith, same_count)))
       where
         go : (u : Table) → length u < 1 → need_added u n ≡ none
         go [] o = unfold need_added in refl
@@ -105,12 +102,11 @@ module _ (t : Table) (end : TableEnd) (e : end ≡ end_of t) where
       added-to : need_added t n ≡ need_added (ends.front ++ ends.last ∷ []) n
       added-to = ap (λ (u : Table). need_added u n) ends.parts
 
-      pub no-room-for-need : (y : TableEnd) → y ≡ end_of [] → 4 ≤ end.last.need_count → y ≡ end_read (need_added t n)
-      no-room-for-need y q o =
-          not-added y (need_added t n) q (added-to ∙ need-too-many ends.last n ends.front (omega (arith, last-needs)))
+      pub no-room-for-need : 4 ≤ end.last.need_count → None ≡ end_read (need_added t n)
+      no-room-for-need o = rw (added-to ∙ need-too-many ends.last n ends.front (omega (arith, last-needs)))
 
       pub need-put : (x : ClusterStruct) → end.last.need_count < 4 → x ≡ struct_with_need end.last n
-          → record { last = x; count = end.count } ≡ end_read (need_added t n)
+          → Some (record { last = x; count = end.count }) ≡ end_read (need_added t n)
       need-put x o q =
           let room : length ends.last.needs < needs_most = omega (arith, last-needs) in
           now-last (need_added t n) ends.front (with_need ends.last n) x end.count
@@ -121,18 +117,15 @@ module _ (t : Table) (end : TableEnd) (e : end ≡ end_of t) where
 pub ruleset added = (no-room-for-cluster, cluster-too-low, cluster-put, no-cluster-for-need, no-room-for-need, need-put)
 
 -- what a line says is known by its case
-module _ (t : Table) (line : LineSays) (y : TableEnd) where
-  pub says-begins : (part : ℕ) (version : Version) (need : OptionalNeed) (stays : Bool) → line ≡ says.Begins part version need stays
+module _ (t : Table) (line : LineSays) (y : CodeOption TableEnd) where
+  pub says-begins : (part : ℕ) (version : Version) (need : CodeOption Need) (stays : Bool) → line ≡ says.Begins part version need stays
       → y ≡ end_read (line_added t (says.Begins part version need stays)) → y ≡ end_read (line_added t line)
   says-begins part version need stays e q = rw e q
 
   pub says-adds : (n : Need) → line ≡ says.Adds n → y ≡ end_read (line_added t (says.Adds n)) → y ≡ end_read (line_added t line)
   says-adds n e q = rw e q
 
-  pub says_nothing : line ≡ says.IllFormed → y ≡ end_of [] → y ≡ end_read (line_added t line)
-  says_nothing e q = rw e q
-
-pub ruleset said-so = (says-begins, says-adds, says_nothing)
+pub ruleset said-so = (says-begins, says-adds)
 
 -- ---- which place is another
 
@@ -179,4 +172,3 @@ need-grows (d ∷ t) n =
 pub line-grows : (t : Table) (line : LineSays) → Such (Grown t) (line_added t line)
 line-grows t (says.Begins part version need stays) = cluster-grows t _
 line-grows t (says.Adds n) = need-grows t n
-line-grows t says.IllFormed = tt

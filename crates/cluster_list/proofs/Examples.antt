@@ -6,19 +6,19 @@ use mathlib.Core.Bool.{Bool, true, false}
 use mathlib.Core.List.{List, [], ◌∷◌, ◌++◌}
 use mathlib.Core.Option.{Option, none, some}
 use lib.ListN.{length}
+use Rattle.std.specs.Prelude.{Option as CodeOption, Some, None}
 use Rattle.base.specs.Quoted.{bytes, LF}
 use Rattle.base.proofs.Tables.{◌gives◌, AllHold, in_lines}
+use Rattle.text.specs.declared.cursor.Cursor.{Cursor}
 use Rattle.text.specs.Version.{version}
 use Rattle.text.specs.Digits.{digits}
 use Rattle.text.specs.Number.{cursor}
-use Rattle.text.specs.Then.{and_then}
+use Rattle.text.specs.Then.{and_then_read}
 use Rattle.clusters.specs.Cluster.{cluster, marked_cluster, need}
 use Rattle.clusters.specs.Table.{Table}
-use Rattle.cluster_list.specs.declared.cells.NeedRead.{NeedRead}
-use Rattle.cluster_list.specs.declared.cells.NeedRead.TheVariants.{Value, IllFormed}
-use Rattle.cluster_list.specs.declared.cells.OptionalNeed.TheVariants.{Filled, Empty}
+use Rattle.clusters.specs.declared.cluster.Need.{Need}
 use Rattle.cluster_list.specs.Cells.{part_field, need_of}
-use Rattle.cluster_list.specs.Read.{and_then_some, read_list}
+use Rattle.cluster_list.specs.Read.{and_then_table, read_list}
 use Rattle.cluster_list.specs.Write.{Form, four_names, five_names, list_text, write_list}
 use Rattle.cluster_list.specs.FourNames.{unmarked, no_marks}
 use Rattle.cluster_list.specs.Open.{computing}
@@ -34,7 +34,7 @@ marks_of (c ∷ t) = c.stays ∷ marks_of t
 
 -- how many clusters a list has; and one with these value lines
 abbrev clusters_in : List ℕ → Option ℕ
-clusters_in text = and_then_some none (read_list text) λ t. some (length t)
+clusters_in text = and_then_table none (read_list text) λ t. some (length t)
 
 abbrev clusters_of : List String → Option ℕ
 clusters_of lines = clusters_in (in_lines ("cluster,version,needs,least" ∷ lines))
@@ -43,7 +43,7 @@ clusters_of lines = clusters_in (in_lines ("cluster,version,needs,least" ∷ lin
 
 -- "a part number 1 to 4,294,967,295"
 abbrev part_of : String → Option ℕ
-part_of text = and_then none (part_field (bytes text)) λ part _. some part
+part_of text = and_then_read none (part_field (bytes text)) λ part _. some part
 
 parts-computed : AllHold part_of
     ("0" gives none
@@ -58,18 +58,18 @@ unfolding computing
 parts-computed = refl
 
 -- "both filled or both empty"
-abbrev need_in : String × String → NeedRead
+abbrev need_in : String × String → CodeOption (CodeOption Need × Cursor)
 need_in fields = need_of (bytes fields.0) (bytes fields.1)
 
 needs-computed : AllHold need_in
-    (("20", "1.0.4.0") gives Value (Filled (need 20 (version 1 0 4 0))) (cursor 7)
-    ∷ ("4294967295", "0.0.0.0") gives Value (Filled (need 4294967295 (version 0 0 0 0))) (cursor 7)
-    ∷ ("", "") gives Value Empty (cursor 0)
-    ∷ ("20", "") gives IllFormed
-    ∷ ("", "1.0.4.0") gives IllFormed
-    ∷ ("0", "1.0.4.0") gives IllFormed
-    ∷ ("4294967296", "1.0.4.0") gives IllFormed
-    ∷ ("20", "1.0.4") gives IllFormed
+    (("20", "1.0.4.0") gives Some (Some (need 20 (version 1 0 4 0)), cursor 7)
+    ∷ ("4294967295", "0.0.0.0") gives Some (Some (need 4294967295 (version 0 0 0 0)), cursor 7)
+    ∷ ("", "") gives Some (None, cursor 0)
+    ∷ ("20", "") gives None
+    ∷ ("", "1.0.4.0") gives None
+    ∷ ("0", "1.0.4.0") gives None
+    ∷ ("4294967296", "1.0.4.0") gives None
+    ∷ ("20", "1.0.4") gives None
     ∷ [])
 unfolding computing
 needs-computed = refl
@@ -121,7 +121,7 @@ need-lines-computed = refl
 
 -- the marks of the table that a list says
 abbrev marks_in : List ℕ → Option (List Bool)
-marks_in text = and_then_some none (read_list text) λ t. some (marks_of t)
+marks_in text = and_then_table none (read_list text) λ t. some (marks_of t)
 
 -- "a mark, `stays`, 0 or 1": that of the cluster on the one value line, which has this field of the mark, in a list of the five names
 abbrev mark_on : List ℕ → Option (List Bool)
@@ -236,7 +236,7 @@ texts-computed = refl
 
 -- the example of document 01: names in another order, and what our writer writes; marks, and no marks, as they are written
 abbrev rewritten : List String → Option (List ℕ)
-rewritten lines = and_then_some none (read_list (in_lines lines)) λ t. some (write_list t)
+rewritten lines = and_then_table none (read_list (in_lines lines)) λ t. some (write_list t)
 
 example-computed : AllHold rewritten
     (("version,cluster,least,needs" ∷ "1.0.0.3,11,1.0.0.0,20" ∷ "1.0.4.0,20,," ∷ [])

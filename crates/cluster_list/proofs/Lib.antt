@@ -1,5 +1,3 @@
-pub mod ThenLaws
-pub mod MarkLaws
 pub mod FirstNeed
 pub mod Last
 pub mod RoundTrip

@@ -5,10 +5,8 @@ use mathlib.Core.Path.{◌≡◌, refl, sym, subst}
 use mathlib.Core.List.{List, [], ◌∷◌}
 use native.Mathlib.Omega.{arith}
 use lib.ListN.{length}
+use Rattle.std.specs.Prelude.{Option, Some, None}
 use Rattle.text.specs.declared.cursor.Cursor.{Cursor}
-use Rattle.rows.specs.declared.line.Line.TheVariants.{Ends}
-use Rattle.rows.specs.declared.columns.Column.{Column}
-use Rattle.rows.specs.declared.columns.Column.TheVariants.{At, Missing}
 use Rattle.rows.specs.declared.columns.ClusterColumns.{ClusterColumns}
 use Rattle.rows.specs.declared.list_columns.ListColumns.{ListColumns}
 use Rattle.rows.specs.Field.{cell}
@@ -24,18 +22,18 @@ abbrev pub four_length : ClusterColumns → List ℕ → ℕ
 four_length columns l =
     length (cell columns.cluster l) + length (cell columns.version l) + (length (cell columns.needs l) + length (cell columns.least l))
 
-abbrev pub row_length : ClusterColumns → Column → List ℕ → ℕ
-row_length columns Missing l = four_length columns l + 4
-row_length columns (At stays) l = four_length columns l + length (cell stays l) + 5
+abbrev pub row_length : ClusterColumns → Option ℕ → List ℕ → ℕ
+row_length columns None l = four_length columns l + 4
+row_length columns (Some stays) l = four_length columns l + length (cell stays l) + 5
 
 -- the columns are those of the names line s
 module _ (s : List ℕ) (columns : ListColumns) (names : Cursor) where
-  pub row-bytes : ListPlaced s columns names → (l : List ℕ) (p : ℕ) (next : Cursor) → line_from (commas_of columns.stays) p l ≡ Ends next
+  pub row-bytes : ListPlaced s columns names → (l : List ℕ) (p : ℕ) (next : Cursor) → line_from (commas_of columns.stays) p l ≡ Some next
       → next.at ≡ p + row_length columns.cluster_columns columns.stays l
   row-bytes found l p next = go found
     where
-      EndsRow : Column → Type 0
-      EndsRow stays = line_from (commas_of stays) p l ≡ Ends next → next.at ≡ p + row_length columns.cluster_columns stays l
+      EndsRow : Option ℕ → Type 0
+      EndsRow stays = line_from (commas_of stays) p l ≡ Some next → next.at ≡ p + row_length columns.cluster_columns stays l
 
       go : ListPlaced s columns names → EndsRow columns.stays
       go (four e missing placed) =

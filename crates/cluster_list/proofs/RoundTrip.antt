@@ -6,30 +6,26 @@ use Prim.Native.Nat.{ℕ, zero, suc, ◌+◌, ◌≤◌, ◌<◌}
 use mathlib.Core.Path.{◌≡◌, refl, ap, ◌∙◌}
 use mathlib.Core.Bool.{Bool, true, false}
 use mathlib.Core.List.{List, [], ◌∷◌, ◌++◌, append_assoc, append-nil}
-use mathlib.Core.Option.{Option, some}
+use mathlib.Core.Option.{Option, none, some}
 use native.Mathlib.Omega.{arith}
 use lib.Dec.{eqb, leb}
 use lib.ListN.{length, take, drop, get_or, length-take, length-drop, length-append, take-append-drop}
 use lib.Seq.{drop-append_seam}
 use borrow.Author.Tests.{le-leb, lt-leb, leb-true, le-ltb}
 use Rattle.base.proofs.Tests.{and_left, and_right, and_both}
+use Rattle.std.specs.Prelude.{Option as CodeOption, Some, None}
 use Rattle.text.specs.declared.cursor.Cursor.{Cursor}
 use Rattle.text.specs.declared.version.Version.{Version}
-use Rattle.text.specs.declared.number.Number.TheVariants.{Value}
 use Rattle.text.specs.Number.{cursor}
 use Rattle.text.specs.Digits.{digits}
 use Rattle.text.specs.Version.{version_within, version_text}
 use Rattle.text.specs.Meaning.{each_byte}
 use Rattle.text.specs.Open.{computing}
-use Rattle.text.specs.Then.{and_then}
+use Rattle.text.specs.Then.{and_then_read, and_then_some}
 use Rattle.text.proofs.DigitLaws.{some-digit}
 use Rattle.text.proofs.Bytes.{each_nil}
 use Rattle.text.proofs.RoundTrip.{whole-number-back, whole-version-back, drop_past}
-use Rattle.rows.specs.declared.columns.Column.{Column}
-use Rattle.rows.specs.declared.columns.Column.TheVariants.{At, Missing}
 use Rattle.rows.specs.declared.list_columns.ListColumns.{ListColumns}
-use Rattle.rows.specs.declared.list_columns.ListColumnsRead.TheVariants.{Named}
-use Rattle.rows.specs.declared.line.Line.TheVariants.{Ends}
 use Rattle.rows.specs.Field.{cell, is_empty, ends_field, field_byte, plain_field}
 use Rattle.rows.specs.Line.{line_from, line_text, plain_fields}
 use Rattle.rows.specs.ListColumns.{list_columns}
@@ -41,9 +37,6 @@ use Rattle.clusters.specs.declared.cluster.Need.{Need}
 use Rattle.clusters.specs.Cluster.{Cluster, marked_cluster, with_need, with_mark, part_within, need_within, needs_within, needs_most, cluster_within}
 use Rattle.clusters.specs.Table.{Table, clusters_most, rising_above, table_within}
 use Rattle.clusters.proofs.Limits.{rising-says, few-clusters, rising-clusters}
-use Rattle.cluster_list.specs.declared.cells.OptionalNeed.{OptionalNeed}
-use Rattle.cluster_list.specs.declared.cells.OptionalNeed.TheVariants.{Filled, Empty}
-use Rattle.cluster_list.specs.declared.cells.NeedRead.TheVariants as need
 use Rattle.cluster_list.specs.Cells.{part_field, need_of, needs_filled}
 use Rattle.cluster_list.specs.Mark.{commas_of, mark_field, no_mark}
 use Rattle.cluster_list.specs.declared.value_line.LineSays.{LineSays}
@@ -58,9 +51,9 @@ use Rattle.cluster_list.proofs.Last.{last-part, need-added, cluster-added}
 -- ---- the two forms
 
 -- the column of the marks, and the columns of our writer
-abbrev stays_in : Form → Column
-stays_in four_names = Missing
-stays_in five_names = At 4
+abbrev stays_in : Form → CodeOption ℕ
+stays_in four_names = None
+stays_in five_names = Some 4
 
 abbrev columns_in : Form → ListColumns
 columns_in form = record { cluster_columns = in_order; stays = stays_in form }
@@ -83,7 +76,7 @@ commas-in : (form : Form) (x y z mark : List ℕ) → commas_of (stays_in form) 
 commas-in four_names x y z mark = refl
 commas-in five_names x y z mark = refl
 
-names-read : (form : Form) (rest : List ℕ) → list_columns (names_line form ++ rest) ≡ Named (columns_in form) (cursor (length (names_line form)))
+names-read : (form : Form) (rest : List ℕ) → list_columns (names_line form ++ rest) ≡ Some (columns_in form, cursor (length (names_line form)))
 unfolding line_text
 names-read four_names rest = four-names rest
 names-read five_names rest = five-names rest
@@ -100,7 +93,7 @@ as-read-more five_names c t = refl
 
 -- ---- fields
 
-pub part-back : (part : ℕ) → part_within part ≡ true → part_field (digits part) ≡ Value part (cursor (length (digits part)))
+pub part-back : (part : ℕ) → part_within part ≡ true → part_field (digits part) ≡ Some (part, cursor (length (digits part)))
 unfolding part_field part_within
 part-back part h =
     rw (
@@ -112,7 +105,7 @@ pub part-some : (part : ℕ) → is_empty (digits part) ≡ false
 part-some part = some_byte (digits part) (some-digit part)
 
 pub need-back : (n : Need) → need_within n ≡ true
-    → need_of (digits n.part) (version_text n.least) ≡ need.Value (Filled n) (cursor (length (version_text n.least)))
+    → need_of (digits n.part) (version_text n.least) ≡ Some (Some n, cursor (length (version_text n.least)))
 unfolding need_of need_within
 need-back n h =
     rw (
@@ -121,7 +114,7 @@ need-back n h =
       whole-version-back n.least (and_right (part_within n.part) _ h),
     )
 
-pub no-need-back : need_of [] [] ≡ need.Value Empty (cursor 0)
+pub no-need-back : need_of [] [] ≡ Some (None, cursor 0)
 unfolding need_of
 no-need-back = refl
 
@@ -135,15 +128,15 @@ unfolding no_mark
 no-mark-back four_names l e = refl
 no-mark-back five_names l e = rw e
 
-mark-text-back : (stays : Bool) (l : List ℕ) → cell 4 l ≡ mark_text stays → (f : Bool → LineSays)
-    → (and_then says.IllFormed (mark_field (stays_in five_names) l) λ mark _. f (eqb mark 1)) ≡ f stays
+mark-text-back : (stays : Bool) (l : List ℕ) → cell 4 l ≡ mark_text stays → (f : Bool → CodeOption LineSays)
+    → (and_then_read None (mark_field (stays_in five_names) l) λ mark _. f (eqb mark 1)) ≡ f stays
 unfolding mark_field computing
 mark-text-back false l e f = rw e
 mark-text-back true l e f = rw e
 
 -- what follows the mark follows that of the cluster, or 0 where the form has none
-mark-back : (form : Form) (stays : Bool) (l : List ℕ) → MarkCell form (mark_text stays) l → (f : Bool → LineSays)
-    → (and_then says.IllFormed (mark_field (stays_in form) l) λ mark _. f (eqb mark 1)) ≡ f (mark_in form stays)
+mark-back : (form : Form) (stays : Bool) (l : List ℕ) → MarkCell form (mark_text stays) l → (f : Bool → CodeOption LineSays)
+    → (and_then_read None (mark_field (stays_in form) l) λ mark _. f (eqb mark 1)) ≡ f (mark_in form stays)
 unfolding mark_field
 mark-back four_names stays l e f = refl
 mark-back five_names stays l e f = mark-text-back stays l e f
@@ -165,8 +158,8 @@ module _ (form : Form) (l : List ℕ) (t : Table) where
   need-line-back n h fields =
       rw (fields.first, fields.second, fields.third, fields.fourth, no-mark-back form l fields.last, need-back n h)
 
-  cluster-line-back : (part : ℕ) (version : Version) (stays : Bool) (y z : List ℕ) (read : OptionalNeed) (next : Cursor)
-      → part_within part ≡ true → version_within version ≡ true → need_of y z ≡ need.Value read next
+  cluster-line-back : (part : ℕ) (version : Version) (stays : Bool) (y z : List ℕ) (read : CodeOption Need) (next : Cursor)
+      → part_within part ≡ true → version_within version ≡ true → need_of y z ≡ Some (read, next)
       → Fields form (digits part) (version_text version) y z (mark_text stays) l
       → value_line (columns_in form) l t ≡ cluster_added t (marked_cluster part version (needs_filled read) (mark_in form stays))
   unfolding value_line cluster_line cluster_begun
@@ -181,7 +174,8 @@ module _ (form : Form) (l : List ℕ) (t : Table) where
         whole-version-back version w,
         n,
       )
-      (ap (line_added t) (mark-back form stays l fields.last λ b. says.Begins part version read b))
+      (ap (λ (line : CodeOption LineSays). and_then_some none line (line_added t))
+      (mark-back form stays l fields.last λ b. Some (says.Begins part version read b)))
 
 -- ---- a line that stands in a text, and then the lines behind it
 
@@ -212,7 +206,7 @@ module _ (form : Form) (s : List ℕ) (at : ℕ) (w x y z mark rest : List ℕ)
   stands : drop at s ≡ line_text (w ∷ x ∷ y ∷ z ∷ last_in form mark) ++ rest
   stands = e ∙ ap (λ (line : List ℕ). line ++ rest) (line-in form w x y z mark)
 
-  line-ends : line_from (commas_of (stays_in form)) at (drop at s) ≡ Ends (cursor (at + length (line_in form (w ∷ x ∷ y ∷ z ∷ []) mark)))
+  line-ends : line_from (commas_of (stays_in form)) at (drop at s) ≡ Some (cursor (at + length (line_in form (w ∷ x ∷ y ∷ z ∷ []) mark)))
   line-ends = rw (commas-in form x y z mark, line-in form w x y z mark) (line-stands s at w (x ∷ y ∷ z ∷ last_in form mark) rest stands h)
 
   fields-there : Fields form w x y z mark (drop at s)
@@ -296,8 +290,8 @@ needs-parted (suc k) (n ∷ ns) h =
 module _ (form : Form) (s : List ℕ) (front : Table) (rest : List ℕ) (r : Option Table) (part : ℕ) (version : Version) (stays : Bool)
     (h : part_within part ≡ true) (w : version_within version ≡ true) (few : length front < clusters_most) (above : last_part front < part) where
   -- a line with the fields y and z, which say the need `on` or none, and the lines of the needs `below`
-  line-and-needs : (y z : List ℕ) (on : OptionalNeed) (next : Cursor) (below : List Need) → plain_field y ≡ true → plain_field z ≡ true
-      → need_of y z ≡ need.Value on next → needs_within below ≡ true → length (needs_filled on) + length below ≤ needs_most
+  line-and-needs : (y z : List ℕ) (on : CodeOption Need) (next : Cursor) (below : List Need) → plain_field y ≡ true → plain_field z ≡ true
+      → need_of y z ≡ Some (on, next) → needs_within below ≡ true → length (needs_filled on) + length below ≤ needs_most
       → GoesOn form s rest (front ++ marked_cluster part version (needs_filled on ++ below) (mark_in form stays) ∷ []) r
       → GoesOn form s ((line_in form (digits part ∷ version_text version ∷ y ∷ z ∷ []) (mark_text stays) ++ need_lines_text form below) ++ rest) front r
   line-and-needs y z on next below p q said n o go at steps e f =
@@ -318,9 +312,9 @@ module _ (form : Form) (s : List ℕ) (front : Table) (rest : List ℕ) (r : Opt
       → GoesOn form s rest (front ++ marked_cluster part version (on ++ below) (mark_in form stays) ∷ []) r
       → GoesOn form s ((line_in form (digits part ∷ version_text version ∷ need_cells on) (mark_text stays) ++ need_lines_text form below) ++ rest) front r
   unfolding needs_within
-  cluster-back [] below one v n o go = line-and-needs [] [] Empty _ below (each_nil field_byte) (each_nil field_byte) no-need-back n o go
+  cluster-back [] below one v n o go = line-and-needs [] [] None _ below (each_nil field_byte) (each_nil field_byte) no-need-back n o go
   cluster-back (m ∷ []) below one v n o go =
-      line-and-needs (digits m.part) (version_text m.least) (Filled m) _ below (plain-digits m.part) (plain-version m.least)
+      line-and-needs (digits m.part) (version_text m.least) (Some m) _ below (plain-digits m.part) (plain-version m.least)
       (need-back m (and_left (need_within m) _ v)) n o go
   cluster-back (m ∷ k ∷ on) below one v n o go = absurd (omega arith)
 

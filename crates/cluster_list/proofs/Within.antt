@@ -1,5 +1,5 @@
 -- A table that was read from a list is within the limits: each value line keeps it so. Assumes nothing.
-use mathlib.Core.Path.{◌≡◌, refl, ap, subst, ◌∙◌}
+use mathlib.Core.Path.{◌≡◌, refl, sym, ap, subst, ◌∙◌}
 use mathlib.Core.Bool.{true, ◌&&◌}
 use mathlib.Core.List.{List, [], ◌∷◌, ◌++◌}
 use mathlib.Core.Option.{Option, none, some}
@@ -9,34 +9,35 @@ use lib.Dec.{eqb, leb}
 use lib.ListN.{length, drop, length-append}
 use borrow.Author.Tests.{leb-false, le-leb}
 use Rattle.base.proofs.Tests.{and_left, and_right, and_both, cond_cases}
+use Rattle.std.specs.Prelude.{Option as CodeOption, Some, None, unwrap_or}
 use Rattle.text.specs.Version.{whole_version, version_within}
-use Rattle.text.proofs.ThenLaws.{then-cases, then-cases-version}
+use Rattle.text.specs.Then.{and_then_some}
+use Rattle.text.proofs.ThenLaws.{then-cases, then-cases-some}
 use Rattle.text.proofs.Meaning.{whole-version-limits}
 use Rattle.rows.specs.declared.list_columns.ListColumns.{ListColumns}
 use Rattle.rows.specs.Field.{cell, is_empty}
 use Rattle.rows.specs.Line.{line_from}
 use Rattle.rows.specs.ListColumns.{list_columns}
-use Rattle.rows.proofs.ThenLaws.{then-cases-line, then-cases-list-columns}
 use Rattle.clusters.specs.declared.cluster.Need.{Need}
 use Rattle.clusters.specs.Cluster.{Cluster, marked_cluster, with_need, part_within, need_within, needs_within, needs_most, cluster_within}
 use Rattle.clusters.specs.Table.{Table, rising_above, table_within, clusters_most}
 use Rattle.clusters.proofs.Limits.{rising-says, rising-is, few-clusters, rising-clusters, table-is-within}
 use Rattle.clusters.specs.View.{view_table}
-use Rattle.clusters.proofs.Structs.{view_struct}
-use Rattle.cluster_list.specs.declared.read.ListRead.{ListRead}
+use Rattle.clusters.specs.Struct.{struct_table}
+use Rattle.clusters.specs.Exact.{empty_table}
+use Rattle.clusters.proofs.Structs.{struct-empty, view_struct}
+use Rattle.clusters.specs.declared.table.Table.{Table as TableStruct}
 use Rattle.cluster_list.specs.declared.value_line.LineSays.{LineSays}
-use Rattle.cluster_list.specs.declared.value_line.LineSays.TheVariants as says
 use Rattle.cluster_list.specs.Cells.{part_field, need_fields, needs_filled}
 use Rattle.cluster_list.specs.Mark.{commas_of, mark_field, no_mark}
-use Rattle.cluster_list.specs.Read.{and_then_some, last_part, cluster_added, need_added, need_line, cluster_begun, cluster_line, line_added, value_line, value_lines, read_list, list_read, table_read}
-use Rattle.cluster_list.proofs.ThenLaws.{then-cases-need, then-cases-filled}
+use Rattle.cluster_list.specs.Read.{and_then_table, last_part, cluster_added, need_added, need_line, cluster_begun, cluster_line, line_added, value_line, value_lines, read_list, list_read, table_read}
 use Rattle.cluster_list.proofs.FirstNeed.{few-filled}
 use Rattle.cluster_list.proofs.CellsWithin.{part-read-within, needs-read-within, need-read-within}
 
--- to show something of an `and_then_some`, show it of `ill`, and of what follows a value
-pub then-cases-some : {A R : Type 0} (P : R → Type 0) (ill : R) (o : Option A) (f : A → R) → P ill → ((a : A) → o ≡ some a → P (f a)) → P (and_then_some ill o f)
-then-cases-some P ill (some a) f i g = g a refl
-then-cases-some P ill none f i g = i
+-- to show something of an `and_then_table`, show it of `ill`, and of what follows a value
+pub then-cases-table : {A R : Type 0} (P : R → Type 0) (ill : R) (o : Option A) (f : A → R) → P ill → ((a : A) → o ≡ some a → P (f a)) → P (and_then_table ill o f)
+then-cases-table P ill (some a) f i g = g a refl
+then-cases-table P ill none f i g = i
 
 -- ---- a cluster by its parts
 
@@ -117,7 +118,7 @@ need-added-rises last (c ∷ []) n h k =
 need-added-rises last (c ∷ (d ∷ t)) n h k =
     let r = rising-says last c (d ∷ t) h in
     let ih = need-added-rises c.part (d ∷ t) n r.rest k in
-    then-cases-some (RisesAs last (length (c ∷ (d ∷ t)))) none (need_added (d ∷ t) n) _ tt λ u e.
+    then-cases-table (RisesAs last (length (c ∷ (d ∷ t)))) none (need_added (d ∷ t) n) _ tt λ u e.
     let w : RisesAs c.part (length (d ∷ t)) (some u) = subst (RisesAs c.part (length (d ∷ t))) e ih in
     (rising-is last c u (record { over = r.over; within = r.within; rest = w.0 }), ap suc w.1)
 
@@ -130,15 +131,15 @@ need-added-within t n h k = go (need_added t n) (need-added-rises 0 t n (rising-
 
 module _ (columns : ListColumns) (l : List ℕ) (t : Table) (h : table_within t ≡ true) where
   -- the table with a line added is
-  abbrev WithinWith : LineSays → Type 0
-  WithinWith line = Within (line_added t line)
+  abbrev WithinWith : CodeOption LineSays → Type 0
+  WithinWith line = Within (and_then_some none line (line_added t))
 
   need-line-within : WithinWith (need_line columns l)
   unfolding need_line
   need-line-within =
       cond_cases WithinWith (no_mark columns.stays l) _ _
-      (λ b. then-cases-need WithinWith says.IllFormed (need_fields columns.cluster_columns l) _ tt λ need next e.
-      then-cases-filled WithinWith says.IllFormed need _ tt λ n f.
+      (λ b. then-cases WithinWith None (need_fields columns.cluster_columns l) _ tt λ need next e.
+      then-cases-some WithinWith None need _ tt λ n f.
       need-added-within t n h (need-read-within (cell columns.cluster_columns.needs l) (cell columns.cluster_columns.least l) need next e n f))
       λ b. tt
 
@@ -147,12 +148,12 @@ module _ (columns : ListColumns) (l : List ℕ) (t : Table) (h : table_within t 
   cluster-line-within =
       let part-cell = cell columns.cluster_columns.cluster l in
       let version-cell = cell columns.cluster_columns.version l in
-      then-cases WithinWith says.IllFormed (part_field part-cell) _ tt λ part behind e.
-      then-cases-version WithinWith says.IllFormed (whole_version version-cell) _ tt λ version next f.
+      then-cases WithinWith None (part_field part-cell) _ tt λ part behind e.
+      then-cases WithinWith None (whole_version version-cell) _ tt λ version next f.
       let part-fine = part-read-within part-cell part behind e in
       let version-fine = whole-version-limits version-cell version next _ refl f in
-      then-cases-need WithinWith says.IllFormed (need_fields columns.cluster_columns l) _ tt λ need after g.
-      then-cases WithinWith says.IllFormed (mark_field columns.stays l) _ tt λ mark last i.
+      then-cases WithinWith None (need_fields columns.cluster_columns l) _ tt λ need after g.
+      then-cases WithinWith None (mark_field columns.stays l) _ tt λ mark last i.
       cluster-added-within t _ h
       (cluster-is-within (marked_cluster part version (needs_filled need) (eqb mark 1)) part-fine version-fine (omega (arith, few-filled need))
       (needs-read-within (cell columns.cluster_columns.needs l) (cell columns.cluster_columns.least l) need after g))
@@ -173,31 +174,42 @@ module _ (P : Table → Type 0) (columns : ListColumns) (keeps : (l : List ℕ) 
   lines_keep (suc steps) s at t h =
       let ih : (next : ℕ) (u : Table) → P u → Such P (value_lines steps columns s next u) = lines_keep steps s in
       cond_cases (Such P) (leb (length s) at) _ _ (λ b. h) λ b.
-      then-cases-line (Such P) none (line_from (commas_of columns.stays) at (drop at s)) _ tt λ next e.
-      then-cases-some (Such P) none (value_line columns (drop at s) t) _ tt λ u f.
+      then-cases-some (Such P) none (line_from (commas_of columns.stays) at (drop at s)) _ tt λ next e.
+      then-cases-table (Such P) none (value_line columns (drop at s) t) _ tt λ u f.
       ih next.at u (subst (Such P) f (keeps (drop at s) t h))
 
 list-within : (s : List ℕ) → Within (read_list s)
 unfolding read_list
 list-within s =
-    then-cases-list-columns Within none (list_columns s) _ tt λ columns next e.
+    then-cases Within none (list_columns s) _ tt λ columns next e.
     lines_keep (λ t. table_within t ≡ true) columns (value-line-within columns) (length s) s next.at [] (unfold table_within rising_above in refl)
 
 -- a table that was read is within the limits
 pub read_list-within : (s : List ℕ) (t : Table) → read_list s ≡ some t → table_within t ≡ true
 read_list-within s t e = subst Within e (list-within s)
 
--- the same of what the reader in the code answers: the table of an ill-formed list is the empty one
-pub list-read-within : (s : List ℕ) (r : ListRead) → r ≡ list_read (read_list s) → table_within (view_table r.table) ≡ true
+-- the same of the table that the reader in the code answers
+pub list-read-within : (s : List ℕ) (r : CodeOption TableStruct) (table : TableStruct) → r ≡ list_read (read_list s) → r ≡ Some table
+    → table_within (view_table table) ≡ true
 unfolding list_read
-list-read-within s r e = go (read_list s) (list-within s) (ap (λ (x : ListRead). x.table) e)
+list-read-within s r table e f = go (read_list s) (list-within s) (sym f ∙ e)
   where
-    go : (o : Option Table) → Within o → r.table ≡ (list_read o).table → table_within (view_table r.table) ≡ true
-    go none w f = rw (f, view_struct [] (unfold table_within rising_above in refl)) (unfold table_within rising_above in refl)
-    go (some t) w f = rw (f, view_struct t w) w
+    go : (o : Option Table) → Within o → Some table ≡ list_read o → table_within (view_table table) ≡ true
+    go none w g = absurd (let z : ◌≡◌ {A = ℕ} 0 1 = cc in omega arith)
+    go (some t) w g = let same : table ≡ struct_table t = cc in rw (same, view_struct t w) w
+
+-- and of the table that a caller takes, who takes the empty one where the list is ill-formed
+pub list-or-empty-within : (s : List ℕ) (r : CodeOption TableStruct) (empty table : TableStruct) → r ≡ list_read (read_list s) → empty ≡ empty_table
+    → table ≡ unwrap_or r empty → table_within (view_table table) ≡ true
+list-or-empty-within s r empty table e f g = go r refl
+  where
+    go : (o : CodeOption TableStruct) → r ≡ o → table_within (view_table table) ≡ true
+    go None q =
+        rw (g, q, f, struct-empty, view_struct [] (unfold table_within rising_above in refl)) (unfold table_within rising_above in refl)
+    go (Some t) q = let same : table ≡ t = g ∙ rw q in list-read-within s r table e (q ∙ ap Some (sym same))
 
 -- what the answer says is what the definition reads
-pub table-read : (s : List ℕ) (r : ListRead) → r ≡ list_read (read_list s) → table_read r ≡ read_list s
+pub table-read : (s : List ℕ) (r : CodeOption TableStruct) → r ≡ list_read (read_list s) → table_read r ≡ read_list s
 unfolding list_read
 table-read s r e = ap table_read e ∙ go (read_list s) (list-within s)
   where

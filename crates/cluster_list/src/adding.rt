@@ -1,4 +1,4 @@
-// Adds what a line says to the table that the lines before it gave. All that this asks of the table, and all that it changes, is the end.
+// Adds what a line says to the table that the lines before it gave. All that this reads of the table, and all that it changes, is the end.
 ghost use Rattle.std.specs.Prelude.{◌≡◌, []};
 ghost use Rattle.clusters.specs.Cluster.{marked_cluster};
 ghost use Rattle.clusters.specs.Struct.{struct_cluster};
@@ -7,7 +7,7 @@ ghost use Rattle.cluster_list.specs.Cells.{needs_filled};
 ghost use Rattle.cluster_list.specs.Read.{line_added, end_of, end_read};
 ghost use Rattle.cluster_list.specs.declared.value_line.LineSays.TheVariants as says;
 
-use crate::cells::{OptionalNeed, cluster_with};
+use crate::cells::cluster_with;
 use crate::value_line::LineSays;
 use clusters::cluster::{Cluster, NEEDS_MOST, Need, new_cluster, with_mark, with_need};
 use clusters::table::CLUSTERS_MOST;
@@ -20,19 +20,18 @@ pub struct TableEnd {
     pub count: usize,
 }
 
-// Gives the end of the empty table. A table with a line added has a cluster, so this end also answers that a line cannot be added.
+// Returns the end of the empty table.
 pub fn empty_end() -> TableEnd
     ensures { result ≡ end_of [] }
 {
-    let cleared = new_cluster(0, NO_VERSION);
     TableEnd {
-        last: cleared,
+        last: new_cluster(0, NO_VERSION),
         count: 0,
     }
 }
 
 // Makes the cluster of a line's fields, with its unused places cleared.
-fn marked_cluster(part: u32, version: Version, need: OptionalNeed, stays: bool) -> Cluster
+fn marked_cluster(part: u32, version: Version, need: Option<Need>, stays: bool) -> Cluster
     ensures { result ≡ struct_cluster (marked_cluster part version (needs_filled need) stays) }
 {
     let begun = cluster_with(part, version, need);
@@ -43,46 +42,36 @@ fn marked_cluster(part: u32, version: Version, need: OptionalNeed, stays: bool) 
 fn add_cluster(
     part: u32,
     version: Version,
-    need: OptionalNeed,
+    need: Option<Need>,
     stays: bool,
     end: TableEnd,
-) -> TableEnd
+) -> Option<TableEnd>
     ensures { (t : Table) → end ≡ end_of t → result ≡ end_read (line_added t (says.Begins part version need stays)) }
 {
-    let last = end.last;
-    if CLUSTERS_MOST <= end.count {
-        return empty_end();
+    if CLUSTERS_MOST <= end.count || part <= end.last.part {
+        return None;
     }
-    if part <= last.part {
-        return empty_end();
-    }
-    let begun = marked_cluster(part, version, need, stays);
-    TableEnd {
-        last: begun,
+    Some(TableEnd {
+        last: marked_cluster(part, version, need, stays),
         count: end.count + 1,
-    }
+    })
 }
 
 // Puts a need behind those of the last cluster: at most 4.
-fn add_need(n: Need, end: TableEnd) -> TableEnd
+fn add_need(n: Need, end: TableEnd) -> Option<TableEnd>
     ensures { (t : Table) → end ≡ end_of t → result ≡ end_read (line_added t (says.Adds n)) }
 {
-    let last = end.last;
-    if end.count < 1 {
-        return empty_end();
+    if end.count < 1 || NEEDS_MOST <= end.last.need_count {
+        return None;
     }
-    if NEEDS_MOST <= last.need_count {
-        return empty_end();
-    }
-    let more = with_need(last, n);
-    TableEnd {
-        last: more,
+    Some(TableEnd {
+        last: with_need(end.last, n),
         count: end.count,
-    }
+    })
 }
 
 // Adds what a line says: its cluster behind the last, or its need to the last.
-pub fn add_line(says: LineSays, end: TableEnd) -> TableEnd
+pub fn add_line(says: LineSays, end: TableEnd) -> Option<TableEnd>
     ensures { (t : Table) → end ≡ end_of t → result ≡ end_read (line_added t says) }
 {
     match says {
@@ -90,6 +79,5 @@ pub fn add_line(says: LineSays, end: TableEnd) -> TableEnd
             part, version, need, stays, end,
         ),
         LineSays::Adds(n) => add_need(n, end),
-        LineSays::IllFormed => empty_end(),
     }
 }

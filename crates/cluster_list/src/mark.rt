@@ -2,37 +2,38 @@
 ghost use Rattle.std.specs.Prelude.{◌≡◌, drop};
 ghost use Rattle.cluster_list.specs.Mark.{commas_of, mark_field, no_mark};
 
-use rows::columns::Column;
 use rows::reader::{cell_at, cell_is_empty};
 use text::cursor::Cursor;
-use text::number::{Number, whole_number};
+use text::number::whole_number;
 
-// Gives the number of commas of every line: a line has as many fields as there are names.
-pub fn commas_of(stays: Column) -> usize
+// Returns the number of commas of every line: a line has as many fields as there are names.
+pub fn commas_of(stays: Option<usize>) -> usize
     ensures { result ≡ commas_of stays }
 {
     match stays {
-        Column::At(_) => 4,
-        Column::Missing => 3,
+        Some(_) => 4,
+        None => 3,
     }
 }
 
 // Reads the mark of the line at a cursor, which begins a cluster: 0 or 1, and 0 in a list of four names.
-pub fn mark_field(s: &[u8], line: Cursor, stays: Column) -> Number
+#[tactic(auto, unfolding(crate::specs::Mark::mark_field))]
+pub fn mark_field(s: &[u8], line: Cursor, stays: Option<usize>) -> Option<(u32, Cursor)>
     ensures { result ≡ mark_field stays (drop line.at s.now) }
 {
-    let Column::At(k) = stays else {
-        return Number::Value(0, Cursor { at: 0 });
-    };
-    whole_number(cell_at(s, line, k), 1)
+    match stays {
+        Some(k) => whole_number(cell_at(s, line, k), 1),
+        None => Some((0, Cursor { at: 0 })),
+    }
 }
 
-// Says whether the line at a cursor, which adds a need, leaves the mark empty.
-pub fn no_mark(s: &[u8], line: Cursor, stays: Column) -> bool
+// Returns true if the line at a cursor, which adds a need, leaves the mark empty.
+#[tactic(auto, unfolding(crate::specs::Mark::no_mark))]
+pub fn no_mark(s: &[u8], line: Cursor, stays: Option<usize>) -> bool
     ensures { result ≡ no_mark stays (drop line.at s.now) }
 {
-    let Column::At(k) = stays else {
-        return true;
-    };
-    cell_is_empty(s, line, k)
+    match stays {
+        Some(k) => cell_is_empty(s, line, k),
+        None => true,
+    }
 }

@@ -3,9 +3,11 @@
 use Prim.Native.Nat.{ℕ, ◌+◌, ◌≤◌, ◌<◌}
 use mathlib.Core.Path.{◌≡◌, refl, sym, ap, ◌∙◌}
 use mathlib.Core.Bool.{Bool, true}
-use mathlib.Core.List.{List, [], ◌∷◌, ◌++◌, append_assoc}
+use mathlib.Core.List.{List, [], ◌∷◌, ◌++◌, map, append_assoc}
+use native.Mathlib.Numerals.{add-one}
 use native.Mathlib.Omega.{arith}
-use lib.ListN.{length, drop, get_or, length-append}
+use lib.ListN.{length, take, drop, get_or, length-append, length-map, get_or-map, drop_of_length-le}
+use lib.Seq.{drop-cons}
 use borrow.Author.Tests.{leb-true}
 use Rattle.base.specs.Quoted.{comma, LF}
 use Rattle.text.specs.declared.version.Version.{Version}
@@ -20,7 +22,7 @@ use Rattle.clusters.specs.declared.table.Table.{Table as TableStruct}
 use Rattle.clusters.specs.Cluster.{Cluster, needs_most, cluster_within}
 use Rattle.clusters.specs.Table.{Table, clusters_most, table_within}
 use Rattle.clusters.specs.View.{no_need, no_cluster, view_cluster, view_table}
-use Rattle.clusters.proofs.Along.{needs-step, needs-end, needs-count, table_step, table-end, table_at, table-length}
+use Rattle.clusters.proofs.Along.{view-few, needs-step, needs-end, needs-count}
 use Rattle.clusters.proofs.Limits.{cluster-at-within, cluster-few-needs, rising-clusters}
 use Rattle.clusters.proofs.Views.{few-of-within}
 use Rattle.cluster_list.specs.Write.{five_names, line_in, names_line, mark_text, need_cells, need_line_text, need_lines_text}
@@ -128,30 +130,39 @@ needs-length-most c h = omega (arith, cluster-length-parts c, cluster-lines-most
 
 -- ---- what is left of the clusters of a table
 
--- the lines of the cluster at i, and those of the clusters from i on
-abbrev pub cluster_lines_at : TableStruct → ℕ → List ℕ
-cluster_lines_at t i = cluster_lines five_names (view_cluster (get_or t.clusters i no_cluster))
+-- the clusters that the code goes along
+abbrev pub listed : TableStruct → List ClusterStruct
+listed t = take t.count t.clusters
 
-abbrev pub clusters_text_from : TableStruct → ℕ → List ℕ
-clusters_text_from t i = clusters_text five_names (drop i (view_table t))
+-- the lines of clusters, and those of the cluster at i
+abbrev pub lines_of : List ClusterStruct → List ℕ
+lines_of cs = clusters_text five_names (map view_cluster cs)
 
-module _ (t : TableStruct) (h : table_within (view_table t) ≡ true) (long : length t.clusters ≡ clusters_most) (i : ℕ) where
-  pub clusters-left : i < t.count → clusters_text_from t i ≡ cluster_lines_at t i ++ clusters_text_from t (i + 1)
+abbrev pub cluster_lines_at : List ClusterStruct → ℕ → List ℕ
+cluster_lines_at cs i = cluster_lines five_names (view_cluster (get_or cs i no_cluster))
+
+module _ (cs : List ClusterStruct) (i : ℕ) where
+  pub clusters-left : i < length cs → lines_of (drop i cs) ≡ cluster_lines_at cs i ++ lines_of (drop (i + 1) cs)
   unfolding clusters_text
-  clusters-left o = rw (table_step t (few-of-within t h) long i o)
+  clusters-left h = rw (drop-cons cs i no_cluster h, add-one)
 
-  pub clusters-over : t.count ≤ i → clusters_text_from t i ≡ []
+  pub clusters-over : length cs ≤ i → lines_of (drop i cs) ≡ []
   unfolding clusters_text
-  clusters-over o = rw (table-end t (few-of-within t h) long i o)
+  clusters-over h = rw (drop_of_length-le cs h)
 
-  pub cluster-there-within : i < t.count → cluster_within (view_cluster (get_or t.clusters i no_cluster)) ≡ true
-  cluster-there-within o =
-      let few = few-of-within t h in
-      rw (table_at t few long i o) at
-      (cluster-at-within 0 (view_table t) i (view_cluster no_cluster) (rising-clusters (view_table t) h) (rw (table-length t few long) o))
+  pub clusters-length-left : i < length cs → length (lines_of (drop i cs)) ≡ length (cluster_lines_at cs i) + length (lines_of (drop (i + 1) cs))
+  clusters-length-left h = ap length (clusters-left h) ∙ length-append (cluster_lines_at cs i) (lines_of (drop (i + 1) cs))
 
-  pub clusters-length-left : i < t.count → length (clusters_text_from t i) ≡ length (cluster_lines_at t i) + length (clusters_text_from t (i + 1))
-  clusters-length-left o = ap length (clusters-left o) ∙ length-append (cluster_lines_at t i) (clusters_text_from t (i + 1))
+module _ (t : TableStruct) (h : table_within (view_table t) ≡ true) where
+  pub table-lines : clusters_text five_names (view_table t) ≡ lines_of (listed t)
+  table-lines = ap (clusters_text five_names) (view-few t (few-of-within t h))
+
+  pub cluster-there-within : (i : ℕ) → i < length (listed t) → cluster_within (view_cluster (get_or (listed t) i no_cluster)) ≡ true
+  cluster-there-within i o =
+      let e = view-few t (few-of-within t h) in
+      let there : i < length (view_table t) = rw (e, length-map (listed t) view_cluster) o in
+      rw (e, get_or-map view_cluster (listed t) i no_cluster) at
+      (cluster-at-within 0 (view_table t) i (view_cluster no_cluster) (rising-clusters (view_table t) h) there)
 
 pub list-length-parts : (t : Table) → length (write_list t) ≡ 34 + length (clusters_text five_names t)
 unfolding list_text

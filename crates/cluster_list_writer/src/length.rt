@@ -26,8 +26,7 @@ fn first_need_length(c: Cluster) -> usize
     if c.need_count < 1 {
         return 2;
     }
-    let n = c.needs[0];
-    need_length(n)
+    need_length(c.needs[0])
 }
 
 // Counts the bytes of the lines of the needs behind the first, each with two empty fields in front, and LF behind the empty mark.
@@ -36,13 +35,9 @@ fn need_lines_length(c: Cluster) -> usize
     requires { cluster_within (view_cluster c) ≡ true }
     ensures { result ≡ length (need_lines_text five_names (drop 1 (view_cluster c).needs)) }
 {
-    let count = c.need_count;
-    let mut total: usize = 0;
-    let mut i = 1;
-    while i < count {
-        let n = c.needs[i];
-        total += need_length(n) + 3;
-        i += 1;
+    let mut total = 0;
+    for i in 1..c.need_count {
+        total += need_length(c.needs[i]) + 3;
     }
     total
 }
@@ -65,13 +60,9 @@ pub fn list_length(t: Table) -> usize
     requires { table_within (view_table t) ≡ true }
     ensures { result ≡ length (write_list (view_table t)) }
 {
-    let count = t.count;
-    let mut total: usize = 34;
-    let mut i = 0;
-    while i < count {
-        let c = t.clusters[i];
-        total += cluster_length(c);
-        i += 1;
+    let mut total = 34;
+    for c in &t.clusters[..t.count] {
+        total += cluster_length(*c);
     }
     total
 }

@@ -50,10 +50,7 @@ fn put_first_need(buf: &mut [u8], at: usize, c: Cluster) -> usize
 fn mark_byte(stays: bool) -> u8
     ensures { result ∷ [] ≡ mark_text stays }
 {
-    if stays {
-        return b'1';
-    }
-    b'0'
+    if stays { b'1' } else { b'0' }
 }
 
 // Puts the line that a cluster begins with. Its mark is the last field.
@@ -83,13 +80,9 @@ fn put_need_lines(buf: &mut [u8], from: usize, c: Cluster) -> usize
     requires { (c.need_count ≤ 4) × (from + length (need_lines_text five_names (drop 1 (view_cluster c).needs)) ≤ length buf.old) }
     ensures { Put buf.old from (need_lines_text five_names (drop 1 (view_cluster c).needs)) result buf.new }
 {
-    let count = c.need_count;
     let mut at = from;
-    let mut i = 1;
-    while i < count {
-        let n = c.needs[i];
-        at = put_need_line(buf, at, n);
-        i += 1;
+    for i in 1..c.need_count {
+        at = put_need_line(buf, at, c.needs[i]);
     }
     at
 }

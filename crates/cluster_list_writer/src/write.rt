@@ -15,13 +15,9 @@ fn put_clusters(buf: &mut [u8], from: usize, t: Table) -> usize
     requires { (table_within (view_table t) ≡ true) × (from + length (clusters_text five_names (view_table t)) ≤ length buf.old) }
     ensures { Put buf.old from (clusters_text five_names (view_table t)) result buf.new }
 {
-    let count = t.count;
     let mut at = from;
-    let mut i = 0;
-    while i < count {
-        let c = t.clusters[i];
-        at = put_cluster(buf, at, c);
-        i += 1;
+    for c in &t.clusters[..t.count] {
+        at = put_cluster(buf, at, *c);
     }
     at
 }

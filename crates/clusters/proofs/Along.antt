@@ -2,14 +2,16 @@
 use Prim.Native.Nat.{ℕ, ◌+◌, ◌≤◌, ◌<◌}
 use mathlib.Core.Path.{◌≡◌, ap, ◌∙◌}
 use mathlib.Core.Bool.{true, false}
-use mathlib.Core.List.{[], ◌∷◌, map}
+use mathlib.Core.List.{List, [], ◌∷◌, map}
+use native.Mathlib.Numerals.{add-one}
 use native.Mathlib.Omega.{arith}
 use lib.Dec.{leb}
-use lib.ListN.{length, take, drop, get_or, length-map, length-take, get_or-map}
-use lib.Seq.{get_or-take}
+use lib.ListN.{length, take, drop, get_or, length-map, length-take, get_or-map, drop_of_length-le}
+use lib.Seq.{drop-cons, get_or-take}
 use borrow.Author.Tests.{le-leb, lt-leb}
 use Rattle.base.proofs.Counted.{counted-few, counted-fits, seen_step, seen_end, from_step, from_end}
 use Rattle.clusters.specs.declared.cluster.Cluster.{Cluster}
+use Rattle.clusters.specs.declared.cluster.Cluster.{Cluster as ClusterStruct}
 use Rattle.clusters.specs.declared.table.Table.{Table}
 use Rattle.clusters.specs.Cluster.{needs_most}
 use Rattle.clusters.specs.Table.{clusters_most}
@@ -17,6 +19,14 @@ use Rattle.clusters.specs.View.{no_need, no_cluster, view_cluster, view_table}
 
 pub view-few : (t : Table) → t.count ≤ clusters_most → view_table t ≡ map view_cluster (take t.count t.clusters)
 view-few t few = ap (map view_cluster) (counted-few clusters_most t.count no_cluster t.clusters few)
+
+-- the clusters that a slice has from i on, as a loop goes along it
+module _ (cs : List ClusterStruct) where
+  pub seen-next : (i : ℕ) (d : ClusterStruct) → i < length cs → map view_cluster (drop i cs) ≡ view_cluster (get_or cs i d) ∷ map view_cluster (drop (i + 1) cs)
+  seen-next i d h = rw (drop-cons cs i d h, add-one)
+
+  pub seen-last : (i : ℕ) → length cs ≤ i → map view_cluster (drop i cs) ≡ []
+  seen-last i h = ap (map view_cluster) (drop_of_length-le cs {i = i} h)
 
 module _ (t : Table) (few : t.count ≤ clusters_most) (long : length t.clusters ≡ clusters_most) where
   pub table_step : (i : ℕ) → i < t.count → drop i (view_table t) ≡ view_cluster (get_or t.clusters i no_cluster) ∷ drop (i + 1) (view_table t)
@@ -33,15 +43,15 @@ module _ (t : Table) (few : t.count ≤ clusters_most) (long : length t.clusters
   pub table-length : length (view_table t) ≡ t.count
   table-length = rw (view-few t few) (simp (length-map, length-take) (omega arith))
 
-module _ (c : Cluster) (few : c.need_count ≤ needs_most) (long : length c.needs ≡ needs_most) where
-  needs-few : (view_cluster c).needs ≡ take c.need_count c.needs
-  needs-few = counted-few needs_most c.need_count no_need c.needs few
+pub needs-few : (c : Cluster) → c.need_count ≤ needs_most → (view_cluster c).needs ≡ take c.need_count c.needs
+needs-few c few = counted-few needs_most c.need_count no_need c.needs few
 
+module _ (c : Cluster) (few : c.need_count ≤ needs_most) (long : length c.needs ≡ needs_most) where
   pub needs-step : (i : ℕ) → i < c.need_count → drop i (view_cluster c).needs ≡ get_or c.needs i no_need ∷ drop (i + 1) (view_cluster c).needs
-  needs-step i h = rw needs-few (seen_step c.needs c.need_count (omega arith) i no_need h)
+  needs-step i h = rw (needs-few c few) (seen_step c.needs c.need_count (omega arith) i no_need h)
 
   pub needs-end : (i : ℕ) → c.need_count ≤ i → drop i (view_cluster c).needs ≡ []
-  needs-end i h = rw needs-few (seen_end c.needs c.need_count (omega arith) i h)
+  needs-end i h = rw (needs-few c few) (seen_end c.needs c.need_count (omega arith) i h)
 
 -- ---- whether the count fits, by the list's length
 

@@ -10,7 +10,7 @@ use lib.Dec.{eqb}
 use lib.ListN.{length, take, get_or, set, length-take, get_or-map}
 use lib.Seq.{get_or-take, take-suc, take-suc-set}
 use Rattle.text.specs.declared.version.Version.{Version}
-use Rattle.place_in_list.specs.declared.Found.TheVariants.{At, Nothing}
+use Rattle.std.specs.Prelude.{None, Some}
 use Rattle.place_in_list.proofs.Placed.{place-in-map, placed-in}
 use Rattle.clusters.specs.declared.columns.Columns.{Columns}
 use Rattle.clusters.specs.Cluster.{Cluster, marked_cluster}
@@ -32,7 +32,7 @@ map-twice f g (x ∷ xs) = ap (λ (l : List _). g (f x) ∷ l) (map-twice f g xs
 
 -- ---- the place that is found is one of those that count
 
-pub place-below : (part count : ℕ) (parts : List ℕ) (i : ℕ) → place_among 0 part (take count parts) ≡ At i → i < count
+pub place-below : (part count : ℕ) (parts : List ℕ) (i : ℕ) → place_among 0 part (take count parts) ≡ Some i → i < count
 place-below part count parts i e = omega (arith, (placed-in (eqb part) (take count parts) i e).below, length-take count parts)
 
 -- ---- what is found in the columns is what is found in the table
@@ -47,7 +47,7 @@ module _ (columns : Columns) (t : Table) (of : ColumnsOf columns t) (part : ℕ)
   same_place : place_among 0 part (take columns.count columns.parts) ≡ place_of part t
   same_place = ap (place_among 0 part) of.parts ∙ place-in-map part_of (eqb part) 0 t
 
-  pub none-among : place_among 0 part (take columns.count columns.parts) ≡ Nothing → find part t ≡ none
+  pub none-among : place_among 0 part (take columns.count columns.parts) ≡ None → find part t ≡ none
   none-among e = nothing-found 0 part t (sym same_place ∙ e)
 
   -- the cluster with the part number is found, and its version and mark stand at the same place; v and stays stand in for places past
@@ -58,7 +58,7 @@ module _ (columns : Columns) (t : Table) (of : ColumnsOf columns t) (part : ℕ)
     pub same_version : get_or columns.versions i v ≡ found.version
     pub same-mark : get_or columns.marks i stays ≡ found.stays
 
-  pub found_among : (i : ℕ) (v : Version) (stays : Bool) → place_among 0 part (take columns.count columns.parts) ≡ At i → FoundAmong i v stays
+  pub found_among : (i : ℕ) (v : Version) (stays : Bool) → place_among 0 part (take columns.count columns.parts) ≡ Some i → FoundAmong i v stays
   found_among i v stays e =
       let d = marked_cluster 0 v [] stays in
       let p = place-says part t i d (sym same_place ∙ e) in

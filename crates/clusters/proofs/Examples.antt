@@ -12,9 +12,8 @@ use Rattle.clusters.specs.Version.{above, at_or_above, fulfils}
 use Rattle.clusters.specs.Cluster.{Cluster, marked_cluster, cluster, need, with_need, with_mark, part_within, need_within, needs_within, cluster_within}
 use Rattle.clusters.specs.Columns.{mark_of}
 use Rattle.clusters.specs.Table.{Table, find, meets, meets_all, needs_met_of, needs_met, rising_above, table_within}
-use Rattle.place_in_list.specs.declared.Found.{Found}
-use Rattle.place_in_list.specs.declared.Found.TheVariants.{At, Nothing}
-use Rattle.place_in_list.specs.Place.{first_place}
+use Rattle.std.specs.Prelude.{None, Some}
+use Rattle.place_in_list.specs.Place.{Found}
 use Rattle.clusters.specs.Place.{place_of}
 use Rattle.base.proofs.Tables.{◌gives◌, AllHold}
 
@@ -170,14 +169,14 @@ abbrev looked_up : ℕ → Option Cluster × Found
 looked_up part = (find part three, place_of part three)
 
 pub found : AllHold looked_up (
-    10 gives (some (plain 10), At 0)
-    ∷ 20 gives (some (cluster 20 lowest (fine_need ∷ [])), At 1)
-    ∷ 30 gives (some (plain 30), At 2)
-    ∷ 0 gives (none, Nothing)
-    ∷ 15 gives (none, Nothing)
-    ∷ 31 gives (none, Nothing)
+    10 gives (some (plain 10), Some 0)
+    ∷ 20 gives (some (cluster 20 lowest (fine_need ∷ [])), Some 1)
+    ∷ 30 gives (some (plain 30), Some 2)
+    ∷ 0 gives (none, None)
+    ∷ 15 gives (none, None)
+    ∷ 31 gives (none, None)
     ∷ [])
-unfolding find first_place
+unfolding find
 found = refl
 
 -- ---- needs

@@ -9,3 +9,5 @@ pub mod ColumnLaws
 pub mod Views
 pub mod Structs
 pub mod Examples
+pub mod AllNeeds
+pub mod Order

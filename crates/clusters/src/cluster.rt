@@ -33,11 +33,10 @@ pub fn new_cluster(part: u32, version: Version) -> Cluster
         part: 0,
         least: NO_VERSION,
     };
-    let no_needs = [no_need; NEEDS_MOST];
     Cluster {
-        part: part,
-        version: version,
-        needs: no_needs,
+        part,
+        version,
+        needs: [no_need; NEEDS_MOST],
         need_count: 0,
         stays: false,
     }
@@ -49,16 +48,12 @@ pub fn with_need(c: Cluster, n: Need) -> Cluster
     requires { c.need_count < needs_most }
     ensures { result ≡ with_need c n }
 {
-    let count = c.need_count;
     let mut needs = c.needs;
-    needs[count] = n;
-    let version = c.version;
+    needs[c.need_count] = n;
     Cluster {
-        part: c.part,
-        version: version,
-        needs: needs,
-        need_count: count + 1,
-        stays: c.stays,
+        needs,
+        need_count: c.need_count + 1,
+        ..c
     }
 }
 
@@ -66,13 +61,5 @@ pub fn with_need(c: Cluster, n: Need) -> Cluster
 pub fn with_mark(c: Cluster, stays: bool) -> Cluster
     ensures { result ≡ with_mark c stays }
 {
-    let version = c.version;
-    let needs = c.needs;
-    Cluster {
-        part: c.part,
-        version: version,
-        needs: needs,
-        need_count: c.need_count,
-        stays: stays,
-    }
+    Cluster { stays, ..c }
 }

@@ -8,39 +8,28 @@ ghost use Rattle.clusters.specs.View.{view_cluster, view_table};
 ghost use Rattle.clusters.specs.Columns.{ColumnsOf};
 
 use crate::cluster::{Cluster, Need};
-use crate::columns::{Columns, columns_of, place_of};
+use crate::columns::{Columns, place_of};
 use crate::table::Table;
 use crate::version::fulfils;
-use place_in_list::Found;
 
 // Says whether the table with these columns holds the needed cluster at a version that fulfils the least one.
-fn meets_in(columns: Columns, n: Need) -> bool
-    requires { columns.count ≤ clusters_most }
-    ensures { (t : PlainTable) → ColumnsOf columns t → result ≡ meets t n }
+fn meets_in(columns: &Columns, n: Need) -> bool
+    ensures { (t : PlainTable) → ColumnsOf columns.now t → result ≡ meets t n }
 {
-    let count = columns.count;
-    let Found::At(i) = place_of(&columns.parts, count, n.part) else {
-        return false;
-    };
-    let version = columns.versions[i];
-    fulfils(version, n.least)
+    match place_of(&columns.parts, columns.count, n.part) {
+        Some(i) => fulfils(columns.versions[i], n.least),
+        None => false,
+    }
 }
 
 // Says whether the table with these columns meets each need of one cluster.
-fn meets_all_in(columns: Columns, c: Cluster) -> bool
-    requires { (columns.count ≤ clusters_most) × (c.need_count ≤ needs_most) }
-    ensures { (t : PlainTable) → ColumnsOf columns t → result ≡ meets_all t (view_cluster c).needs }
+fn meets_all_in(columns: &Columns, c: Cluster) -> bool
+    requires { c.need_count ≤ needs_most }
+    ensures { (t : PlainTable) → ColumnsOf columns.now t → result ≡ meets_all t (view_cluster c).needs }
 {
-    let count = c.need_count;
-    let mut i = 0;
-    while i < count {
-        let n = c.needs[i];
-        if !meets_in(columns, n) {
-            return false;
-        }
-        i += 1;
-    }
-    true
+    c.needs[..c.need_count]
+        .iter()
+        .all(|n| meets_in(columns, *n))
 }
 
 // Says whether the table holds the needed cluster at a version that fulfils the least one.
@@ -48,8 +37,7 @@ pub fn meets(t: Table, n: Need) -> bool
     requires { t.count ≤ clusters_most }
     ensures { result ≡ meets (view_table t) n }
 {
-    let columns = columns_of(t);
-    meets_in(columns, n)
+    meets_in(&Columns::of(t), n)
 }
 
 // Says whether the table meets each need of each of its clusters.
@@ -57,15 +45,11 @@ pub fn needs_met(t: Table) -> bool
     requires { table_within (view_table t) ≡ true }
     ensures { result ≡ needs_met (view_table t) }
 {
-    let columns = columns_of(t);
-    let count = t.count;
-    let mut i = 0;
-    while i < count {
-        let c = t.clusters[i];
-        if !meets_all_in(columns, c) {
+    let columns = Columns::of(t);
+    for c in &t.clusters[..t.count] {
+        if !meets_all_in(&columns, *c) {
             return false;
         }
-        i += 1;
     }
     true
 }

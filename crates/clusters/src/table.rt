@@ -7,7 +7,6 @@ ghost use Rattle.clusters.specs.Place.{place_of};
 ghost use Rattle.clusters.specs.Exact.{empty_table, append};
 
 use crate::cluster::{Cluster, new_cluster};
-use place_in_list::Found;
 use text::version::NO_VERSION;
 
 // The most clusters that a table has: the one place in the code that has this limit.
@@ -22,31 +21,20 @@ pub struct Table {
 
 // Finds where the cluster with a part number stands. Precondition: the table has at most 64 clusters; the callers in `actions` require the
 // same.
-pub fn find(t: Table, part: u32) -> Found
+pub fn find(t: Table, part: u32) -> Option<usize>
     requires { t.count ≤ clusters_most }
     ensures place { result ≡ place_of part (view_table t) }
     ensures found { found_in (view_table t) result ≡ find part (view_table t) }
 {
-    let count = t.count;
-    let mut i = 0;
-    while i < count {
-        let c = t.clusters[i];
-        if part == c.part {
-            return Found::At(i);
-        }
-        i += 1;
-    }
-    Found::Nothing
+    t.clusters[..t.count].iter().position(|c| part == c.part)
 }
 
 // Makes a table with no clusters and every unused place 0.
 pub fn empty_table() -> Table
     ensures { result ≡ empty_table }
 {
-    let cleared = new_cluster(0, NO_VERSION);
-    let clusters = [cleared; CLUSTERS_MOST];
     Table {
-        clusters: clusters,
+        clusters: [new_cluster(0, NO_VERSION); CLUSTERS_MOST],
         count: 0,
     }
 }
@@ -56,11 +44,10 @@ pub fn append(t: Table, c: Cluster) -> Table
     requires { t.count < clusters_most }
     ensures { result ≡ append t c }
 {
-    let count = t.count;
     let mut clusters = t.clusters;
-    clusters[count] = c;
+    clusters[t.count] = c;
     Table {
-        clusters: clusters,
-        count: count + 1,
+        clusters,
+        count: t.count + 1,
     }
 }

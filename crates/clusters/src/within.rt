@@ -37,25 +37,14 @@ fn needs_within(c: Cluster) -> bool
     requires { c.need_count ≤ needs_most }
     ensures { result ≡ needs_within (view_cluster c).needs }
 {
-    let count = c.need_count;
-    let mut i = 0;
-    while i < count {
-        let n = c.needs[i];
-        if !need_within(n) {
-            return false;
-        }
-        i += 1;
-    }
-    true
+    c.needs[..c.need_count].iter().all(|n| need_within(*n))
 }
 
 pub fn cluster_within(c: Cluster) -> bool
     ensures { result ≡ cluster_within (view_cluster c) }
 {
-    if c.need_count > NEEDS_MOST {
-        return false;
-    }
-    part_within(c.part) & (version_within(c.version) & needs_within(c))
+    c.need_count <= NEEDS_MOST
+        && (part_within(c.part) & (version_within(c.version) & needs_within(c)))
 }
 
 // Says whether the clusters are within their limits and in rising part number. Precondition: the table has at most 64; `table_within`
@@ -64,16 +53,12 @@ fn rising(t: Table) -> bool
     requires { t.count ≤ clusters_most }
     ensures { result ≡ rising_above 0 (view_table t) }
 {
-    let count = t.count;
     let mut last: u32 = 0;
-    let mut i = 0;
-    while i < count {
-        let c = t.clusters[i];
-        if !((last < c.part) & cluster_within(c)) {
+    for c in &t.clusters[..t.count] {
+        if !((last < c.part) & cluster_within(*c)) {
             return false;
         }
         last = c.part;
-        i += 1;
     }
     true
 }
@@ -81,8 +66,5 @@ fn rising(t: Table) -> bool
 pub fn table_within(t: Table) -> bool
     ensures { result ≡ table_within (view_table t) }
 {
-    if t.count > CLUSTERS_MOST {
-        return false;
-    }
-    rising(t)
+    t.count <= CLUSTERS_MOST && rising(t)
 }

@@ -33,6 +33,6 @@ pub fn need(rt: &HostRuntime, case: &[u8]) -> io::Result<()> {
 
 // Prints whether the table that a list says meets all its needs. The fields before the list say in words what is in it.
 pub fn needs(rt: &HostRuntime, case: &[u8]) -> io::Result<()> {
-    let read = read_list(field(case, 3));
-    show::yes_or_no(rt, needs_met(read.table))
+    let table = read_list(field(case, 3)).unwrap_or(empty_table());
+    show::yes_or_no(rt, needs_met(table))
 }

@@ -12,19 +12,17 @@ mod table_actions;
 mod versions;
 
 use crate::kinds::show_case;
+use cases::case::without_end;
 use cases::input::read_full;
 use std::io;
 
-// Prints each case, from behind its `#` to the next.
+// Prints each case, from behind its `#` to the next. The first byte is the first `#`.
 fn show_cases(rt: &HostRuntime, input: &[u8]) -> io::Result<()> {
-    let mut at = 1;
-    while at < input.len() {
-        let end = byte_search::find(input, at, input.len(), b'#');
-        show_case(rt, &input[at..end])?;
-        if input.len() <= end {
-            return Ok(());
-        }
-        at = end + 1;
+    let Some((_, cases)) = input.split_first() else {
+        return Ok(());
+    };
+    for case in cases.split_inclusive(|b| *b == b'#') {
+        show_case(rt, without_end(case, b'#'))?;
     }
     Ok(())
 }

@@ -3,16 +3,15 @@ use cases::case::field;
 use cases::show;
 use cases::values::number_of;
 use std::io;
-use text::number::{Number, whole_number};
+use text::number::whole_number;
 use text::write::{number_length, put_number};
 
 // Reads a number from a text, with the most that it may be, and prints it.
 pub fn read(rt: &HostRuntime, case: &[u8]) -> io::Result<()> {
     let most = number_of(field(case, 2));
-    let read = whole_number(field(case, 1), most);
-    match read {
-        Number::Value(value, _) => show::value(rt, value),
-        Number::IllFormed => show::ill_formed(rt),
+    match whole_number(field(case, 1), most) {
+        Some((value, _)) => show::value(rt, value),
+        None => show::ill_formed(rt),
     }
 }
 

@@ -1,12 +1,13 @@
 // Packages: the text of an area and where its payload lies.
 ghost use Rattle.std.specs.Prelude.{◌≡◌};
-ghost use Rattle.manifest.specs.Answer.{answer_number};
+ghost use Rattle.refusal.specs.Number.{number_of};
+ghost use Rattle.manifest.specs.Answer.{error_number};
 
 use actions::action::{Action, Change};
 use cases::case::field;
 use cases::show;
-use manifest::package::{PackageAnswer, PackageRead, read_package};
-use refusal::{INVALID_MANIFEST, PACKAGE_INCONSISTENT};
+use manifest::package::{PackageError, PackageRead, read_package};
+use refusal::Refusal;
 use std::io;
 use text::version::Version;
 
@@ -41,8 +42,7 @@ fn show_action(rt: &HostRuntime, action: Action) -> io::Result<()> {
 
 // Prints the action, and the payload's count, start and sum.
 fn show_read(rt: &HostRuntime, read: PackageRead) -> io::Result<()> {
-    let action = read.action;
-    show_action(rt, action)?;
+    show_action(rt, read.action)?;
     show::bytes(rt, b", payload ")?;
     show::count(rt, read.count)?;
     show::bytes(rt, b" from ")?;
@@ -52,24 +52,20 @@ fn show_read(rt: &HostRuntime, read: PackageRead) -> io::Result<()> {
     show::byte(rt, b'\n')
 }
 
-// Gives refusal 9 or 10, or 0.
-fn refusal_of(answer: PackageAnswer) -> u32
-    ensures { result ≡ answer_number answer }
+// Returns the refusal 9 (InvalidManifest) or 10 (PackageInconsistent).
+fn refusal_of(error: PackageError) -> Refusal
+    ensures { number_of result ≡ error_number error }
 {
-    match answer {
-        PackageAnswer::IllFormed => INVALID_MANIFEST,
-        PackageAnswer::Inconsistent => PACKAGE_INCONSISTENT,
-        PackageAnswer::Consistent => 0,
+    match error {
+        PackageError::IllFormed => Refusal::InvalidManifest,
+        PackageError::Inconsistent => Refusal::PackageInconsistent,
     }
 }
 
 // Reads the area in the field behind what the case is of, and prints the refusal or what was read.
 pub fn package(rt: &HostRuntime, case: &[u8]) -> io::Result<()> {
-    let read = read_package(field(case, 2));
-    let answer = read.answer;
-    let refusal = refusal_of(answer);
-    if 0 < refusal {
-        return show::refused(rt, refusal);
+    match read_package(field(case, 2)) {
+        Ok(read) => show_read(rt, read),
+        Err(error) => show::refused(rt, refusal_of(error).number()),
     }
-    show_read(rt, read)
 }

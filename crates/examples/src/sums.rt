@@ -3,9 +3,9 @@ use cases::case::field;
 use cases::show;
 use cases::values::number_of;
 use checksum::{continue_sum, number, start};
-use std::io;
+use std::{array, io};
 
-// Gives the sum of two parts, continued from the first to the second.
+// Returns the sum of two parts, continued from the first to the second.
 fn sum_of(first: &[u8], second: &[u8]) -> u32 {
     number(continue_sum(continue_sum(start(), first), second))
 }
@@ -15,15 +15,9 @@ pub fn sum(rt: &HostRuntime, case: &[u8]) -> io::Result<()> {
     show::value(rt, sum_of(field(case, 1), field(case, 2)))
 }
 
-// Gives each byte once, in order.
+// Returns each byte once, in order.
 fn bytes_in_order() -> [u8; 256] {
-    let mut bytes = [0; 256];
-    let mut i = 0;
-    while i < 256 {
-        bytes[i] = i as u8;
-        i += 1;
-    }
-    bytes
+    array::from_fn(|i| i as u8)
 }
 
 // Prints the sum of the bytes from a place on, then of those before it; `ill-formed` where there is no such place.

@@ -6,8 +6,8 @@ use cases::show;
 use cases::values::{number_of, version_of};
 use cluster_list::read::read_list;
 use clusters::cluster::{Cluster, new_cluster, with_mark};
-use clusters::table::{CLUSTERS_MOST, Table};
-use package_heading::change::{ChangeRead, change_of};
+use clusters::table::{CLUSTERS_MOST, Table, empty_table};
+use package_heading::change::change_of;
 use std::io;
 
 // Prints the part number and the last part of the version of a cluster, and whether it stays.
@@ -24,14 +24,8 @@ fn show_cluster(rt: &HostRuntime, cluster: Cluster) -> io::Result<()> {
 
 // Prints each cluster of a table.
 fn show_table(rt: &HostRuntime, table: Table) -> io::Result<()> {
-    let count = table.count;
-    let mut i = 0;
-    while i < count {
-        if CLUSTERS_MOST <= i {
-            return Ok(());
-        }
-        show_cluster(rt, table.clusters[i])?;
-        i += 1;
+    for cluster in table.clusters.iter().take(table.count) {
+        show_cluster(rt, *cluster)?;
     }
     show::byte(rt, b'\n')
 }
@@ -41,9 +35,8 @@ fn act(rt: &HostRuntime, table: Table, action: Action) -> io::Result<()> {
     if table.count > CLUSTERS_MOST {
         return Ok(());
     }
-    let refusal = action_refusal(table, false, action);
-    if 0 < refusal {
-        return show::refused(rt, refusal);
+    if let Err(refusal) = action_refusal(table, false, action) {
+        return show::refused(rt, refusal.number());
     }
     show_table(rt, apply(table, action))
 }
@@ -51,13 +44,13 @@ fn act(rt: &HostRuntime, table: Table, action: Action) -> io::Result<()> {
 // Reads an action as word, part number and version, and the list that says the table. The mark of the action's own cluster is 1: it plays
 // no part.
 pub fn action(rt: &HostRuntime, case: &[u8]) -> io::Result<()> {
-    let ChangeRead::Value(change, _) = change_of(field(case, 1)) else {
+    let Some((change, _)) = change_of(field(case, 1)) else {
         return show::ill_formed(rt);
     };
     let cluster = with_mark(
         new_cluster(number_of(field(case, 2)), version_of(field(case, 3))),
         true,
     );
-    let read = read_list(field(case, 4));
-    act(rt, read.table, Action { change, cluster })
+    let table = read_list(field(case, 4)).unwrap_or(empty_table());
+    act(rt, table, Action { change, cluster })
 }

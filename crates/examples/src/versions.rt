@@ -2,12 +2,12 @@
 use cases::case::field;
 use cases::show;
 use std::io;
-use text::version::{VersionRead, whole_version};
+use text::version::whole_version;
 use text::write::{put_version, version_length};
 
 // Reads a version, and prints how many bytes it takes and the version written in a buffer of dashes.
 pub fn read(rt: &HostRuntime, case: &[u8]) -> io::Result<()> {
-    let VersionRead::Value(version, _) = whole_version(field(case, 1)) else {
+    let Some((version, _)) = whole_version(field(case, 1)) else {
         return show::ill_formed(rt);
     };
     show::length(rt, version_length(version))?;

@@ -1,12 +1,14 @@
 -- The ways out of an old call, the same for all four: answered by one of its numbers with the State handed in, or by what the twelve's call
 -- of a sound state gave. `search old-ways` closes each return; the other clauses follow from the exact one. Assumes nothing.
 use Prim.Native.Nat.{ℕ, ◌≤◌}
+use mathlib.Core.Logic.{◌⊎◌}
+use native.Mathlib.Omega.{arith}
 use mathlib.Core.Path.{◌≡◌, refl, sym, ap, subst, ◌∙◌}
 use mathlib.Core.Bool.{Bool, true, false, not, cond, ◌||◌}
 use mathlib.Core.List.{List, [], ◌∷◌}
 use mathlib.Core.Option.{Option, none, some}
 use lib.Dec.{eqb}
-use lib.ListN.{length, get_or}
+use lib.ListN.{length}
 use borrow.Author.Tests.{not-false}
 use Rattle.base.specs.Refusals.{Refusal, refuse◌when◌, first_refusal, none_applies}
 use Rattle.base.proofs.Refusals.{accepted-none, none-accepted}
@@ -16,7 +18,7 @@ use Rattle.clusters.specs.declared.table.Table.{Table}
 use Rattle.clusters.specs.Table.{clusters_most, needs_met}
 use Rattle.clusters.specs.View.{view_table}
 use Rattle.model.specs.State as model
-use Rattle.model.specs.State.{phase_number, Store}
+use Rattle.model.specs.State.{is_idle, phase_number, Store}
 use Rattle.model.specs.Calls.{Call, call_number, cancel}
 use Rattle.model.specs.Areas.{processing_id}
 use Rattle.model.specs.Permissions.{allowed}
@@ -27,14 +29,16 @@ use Rattle.model.specs.Step.{own_refusals, further_refusals, step}
 use Rattle.model.specs.Layers.{EventOutcome, event_outcome, view_outcome_by}
 use Rattle.model.proofs.soundness.Accepted.{first-passed, passed_over, refused-by}
 use Rattle.model.proofs.soundness.KeptSound.{step-sound}
+use Rattle.state.specs.declared.phase.Phase.{Phase}
+use Rattle.state.specs.declared.phase.Phase.TheVariants.{Idle, Ready}
 use Rattle.state.specs.declared.session.Session.{Session}
 use Rattle.state.specs.declared.state.State.{State}
 use Rattle.state.specs.declared.answer.Answer.{Answer}
 use Rattle.state.specs.declared.answer.Answer.TheVariants.{Done}
 use Rattle.state.specs.declared.answer.Answered.{Answered}
-use Rattle.state.specs.View.{entries_most, view_session, view_state}
+use Rattle.state.specs.View.{entries_most, view_phase, view_session, view_state}
 use Rattle.state.specs.Permissions.{allowed_number}
-use Rattle.state.specs.Outcome.{is_refusal, Outcome, outcome, view_outcome, settled, called_on_sound}
+use Rattle.state.specs.Outcome.{is_refusal, Outcome, outcome, view_outcome, settled, called_on_sound, answered}
 use Rattle.state.proofs.Permitted.{by_number}
 use Rattle.state.proofs.Outcomes.{view-called, called-sound}
 use Rattle.staging.specs.Staged.{staged_table}
@@ -44,10 +48,9 @@ use Rattle.session_calls.proofs.MoveLaws.{view-reverting, view-activating, view-
 use Rattle.manager.specs.Accepts.{accepts, exact_step}
 use Rattle.four_state.specs.declared.call.OldCall.{OldCall}
 use Rattle.four_state.specs.declared.call.OldCall.TheVariants.{Activate, Cancel, Revert, Rollback}
-use Rattle.four_state.specs.declared.answer.OldAnswered.{OldAnswered}
-use Rattle.four_state.specs.OldCalls.{twelve_of, statuses, shown_as, unsound_answer, further_answers, old_answers, begun_unless, old_step}
+use Rattle.four_state.specs.OldCalls.{twelve_of, is_ready, unsound_answer, further_answers, old_answers, begun_unless, old_step}
 use Rattle.four_state.proofs.ExactlyWhen.{zero-is-begun}
-use Rattle.four_state.specs.Exact.{old_answered, old_outcome, answered_by, exact_begun_unless, exact_old_step, answered_on_sound, SoundIfZero}
+use Rattle.four_state.specs.Exact.{old_outcome, answered_by, exact_begun_unless, exact_old_step, answered_on_sound, SoundIfZero}
 
 -- ---- the one condition under which the twelve's call of a sound state is still refused; its number does not matter
 
@@ -64,19 +67,19 @@ unfolding further_refusals own_refusals none_applies
 left-by-id s store id n may = rw may
 
 -- ---- an old call gives r, where it is answered by a number or by none
-pub record Gives (s : State) (store : Store) (call : OldCall) (answer : Option ℕ) (r : OldAnswered) : Type 0 where
+pub record Gives (s : State) (store : Store) (call : OldCall) (answer : Option ℕ) (r : Answered ℕ) : Type 0 where
   pub same : old_outcome r store ≡ exact_begun_unless s store call answer
 
 module _ (s : State) (store : Store) (call : OldCall) where
   -- ---- by the first of a list, or past it
 
-  pub answer-first : (n : ℕ) (b : Bool) (rs : List Refusal) (r : OldAnswered) → b ≡ true → r ≡ old_answered n s
+  pub answer-first : (n : ℕ) (b : Bool) (rs : List Refusal) (r : Answered ℕ) → b ≡ true → r ≡ answered n s
       → Gives s store call (first_refusal ((refuse n when b) ∷ rs)) r
   unfolding exact_begun_unless
   answer-first n b rs r e f =
-      record { same = rw (refused-by (refuse n when b) rs e) (ap (λ (z : OldAnswered). old_outcome z store) f) }
+      record { same = rw (refused-by (refuse n when b) rs e) (ap (λ (z : Answered ℕ). old_outcome z store) f) }
 
-  pub pass-answer : (n : ℕ) (b : Bool) (rs : List Refusal) (r : OldAnswered) → b ≡ false → Gives s store call (first_refusal rs) r
+  pub pass-answer : (n : ℕ) (b : Bool) (rs : List Refusal) (r : Answered ℕ) → b ≡ false → Gives s store call (first_refusal rs) r
       → Gives s store call (first_refusal ((refuse n when b) ∷ rs)) r
   pass-answer n b rs r e f = record { same = rw (passed_over (refuse n when b) rs e) f.same }
 
@@ -88,7 +91,7 @@ module _ (s : State) (store : Store) (call : OldCall) where
   accepts-done =
       elim call as (λ k. (accepts s store (twelve_of k)).answered.answer ≡ Done) [ Activate ↦ refl | Cancel id ↦ refl | Revert ↦ refl | Rollback ↦ refl ]
 
-  module _ (ok : sound (view_state s) store ≡ true) (made : Answered)
+  module _ (ok : sound (view_state s) store ≡ true) (made : Answered Answer)
       (is : outcome made store ≡ called_on_sound s store (twelve_of call) (accepts s store (twelve_of call))) where
     abbrev left : List Refusal
     left = further_refusals (view_state s) store (twelve_of call)
@@ -99,56 +102,56 @@ module _ (s : State) (store : Store) (call : OldCall) where
     unfolding called_on_sound
     made-settled refusal e = is ∙ ap (λ (z : Option ℕ). settled s store z (accepts s store (twelve_of call))) e
 
-    made-refused : (number other : ℕ) → first_refusal left ≡ some number → answered_by made other ≡ old_answered other s
+    made-refused : (number other : ℕ) → first_refusal left ≡ some number → answered_by made other ≡ answered other s
     unfolding settled
     made-refused number other e = ap (λ (o : Outcome). answered_by o.answered other) (made-settled (some number) e)
 
-    made-accepted : (other : ℕ) → first_refusal left ≡ none → answered_by made other ≡ old_answered 0 made.state
+    made-accepted : (other : ℕ) → first_refusal left ≡ none → answered_by made other ≡ answered 0 made.state
     unfolding settled
     made-accepted other e =
-        ap (λ (answer : Answer). old_answered (cond (is_refusal answer) other 0) made.state)
+        ap (λ (answer : Answer). answered (cond (is_refusal answer) other 0) made.state)
         (ap (λ (o : Outcome). o.answered.answer) (made-settled none e) ∙ accepts-done)
 
     -- the last number stands for that condition
-    pub answer-made : (other : ℕ) (b : Bool) (r : OldAnswered) → none_applies left ≡ none_applies ((refuse other when b) ∷ [])
+    pub answer-made : (other : ℕ) (b : Bool) (r : Answered ℕ) → none_applies left ≡ none_applies ((refuse other when b) ∷ [])
         → r ≡ answered_by made other → Gives s store call (first_refusal ((refuse other when b) ∷ [])) r
     unfolding exact_begun_unless first_refusal none_applies
     answer-made other b r same f = go (first_refusal left) refl b same
       where
         go : (refusal : Option ℕ) → first_refusal left ≡ refusal → (b : Bool) → none_applies left ≡ none_applies ((refuse other when b) ∷ [])
             → Gives s store call (first_refusal ((refuse other when b) ∷ [])) r
-        go (some number) e true same = record { same = ap (λ (z : OldAnswered). old_outcome z store) (f ∙ made-refused number other e) }
+        go (some number) e true same = record { same = ap (λ (z : Answered ℕ). old_outcome z store) (f ∙ made-refused number other e) }
         go (some number) e false same = none-some (sym (accepted-none left same) ∙ e)
         go none e true same = clash (none-accepted left e) same
         go none e false same =
             record {
-              same = ap (λ (z : OldAnswered). old_outcome z store) (f ∙ made-accepted other e)
+              same = ap (λ (z : Answered ℕ). old_outcome z store) (f ∙ made-accepted other e)
                   ∙ ap (λ (o : Outcome). event_outcome 0 o.answered.state o.store) (is ∙ called-sound s store (twelve_of call) (accepts s store (twelve_of call)) ok);
             }
 
   -- ---- from any state: b is what the check of soundness answers
 
-  abbrev GivesOfSound : OldAnswered → Type 0
+  abbrev GivesOfSound : Answered ℕ → Type 0
   GivesOfSound r = Gives s store call (first_refusal (further_answers (view_state s) call)) r
 
-  abbrev GivesExactly : OldAnswered → Type 0
+  abbrev GivesExactly : Answered ℕ → Type 0
   GivesExactly r = Gives s store call (first_refusal (old_answers (view_state s) store call)) r
 
   module _ (b : Bool) (told : b ≡ sound (view_state s) store) where
-    pub answer-unsound : (r : OldAnswered) → not b ≡ true → r ≡ old_answered (unsound_answer call) s → GivesExactly r
+    pub answer-unsound : (r : Answered ℕ) → not b ≡ true → r ≡ answered (unsound_answer call) s → GivesExactly r
     unfolding old_answers
     answer-unsound r e f = answer-first (unsound_answer call) _ _ r (ap not (told-no b (sound (view_state s) store) told e)) f
 
-    pub pass-sound : (r : OldAnswered) → not b ≡ false → GivesOfSound r → GivesExactly r
+    pub pass-sound : (r : Answered ℕ) → not b ≡ false → GivesOfSound r → GivesExactly r
     unfolding old_answers
     pass-sound r e f = pass-answer (unsound_answer call) _ _ r (ap not (told-yes b (sound (view_state s) store) told e)) f
 
   -- of a sound state, as a function ensures it
-  pub on-sound : (r : OldAnswered) → old_outcome r store ≡ answered_on_sound s store call → GivesOfSound r
+  pub on-sound : (r : Answered ℕ) → old_outcome r store ≡ answered_on_sound s store call → GivesOfSound r
   on-sound r e = record { same = e }
 
   -- what it gives, of any state and of a sound one, as a function ensures it
-  pub as-ensured : (answer : Option ℕ) (r : OldAnswered) → Gives s store call answer r → old_outcome r store ≡ exact_begun_unless s store call answer
+  pub as-ensured : (answer : Option ℕ) (r : Answered ℕ) → Gives s store call answer r → old_outcome r store ≡ exact_begun_unless s store call answer
   as-ensured answer r g = g.same
 
   -- ---- its clauses
@@ -188,28 +191,36 @@ module _ (s : State) (store : Store) (call : OldCall) where
       (step-sound (view_state s) store (twelve_of call) (not-false _ (first-passed _ _ passed)))
 
   -- the three follow from the exact one
-  pub old-clauses : (r : OldAnswered) → old_outcome r store ≡ exact_old_step s store call
+  pub old-clauses : (r : Answered ℕ) → old_outcome r store ≡ exact_old_step s store call
       → (view_outcome_by view_state (old_outcome r store) ≡ old_step (view_state s) store call)
       × ((old_outcome r store ≡ exact_old_step s store call) × SoundIfZero (old_outcome r store))
   old-clauses r exact = (ap (view_outcome_by view_state) exact ∙ view-old, (exact, subst SoundIfZero (sym exact) sound-if-zero))
 
 -- ---- what the functions tell
 
--- a number with a state
-pub give-number : (r : OldAnswered) (n k : ℕ) (s : State) → n ≡ k → r ≡ old_answered n s → r ≡ old_answered k s
-give-number r n k s e f = f ∙ ap (λ (z : ℕ). old_answered z s) e
+-- b is whether the manager's state is Idle, is Ready, or is one of the two
+module _ (phase : Phase) (b : Bool) where
+  pub told-idle : phase ≡ Idle → b ≡ true → is_idle (view_phase phase) ≡ b
+  told-idle is e = rw (is, e)
 
--- whether the manager's state is Idle or Ready, by its number
-pub told-either : (r n : ℕ) (b : Bool) → r ≡ n → eqb r 0 || eqb r 1 ≡ b → eqb n 0 || eqb n 1 ≡ b
-told-either r n b e f = rw (← e) f
+  pub other-idle : (phase ≡ Idle → ⊥) → b ≡ false → is_idle (view_phase phase) ≡ b
+  other-idle other e = grind arith
+
+  pub told-ready : phase ≡ Ready → b ≡ true → is_ready (view_phase phase) ≡ b
+  told-ready is e = rw (is, e)
+
+  pub other-ready : (phase ≡ Ready → ⊥) → b ≡ false → is_ready (view_phase phase) ≡ b
+  other-ready other e = grind arith
+
+  pub told-either : (phase ≡ Idle) ⊎ (phase ≡ Ready) → b ≡ true → is_idle (view_phase phase) || is_ready (view_phase phase) ≡ b
+  told-either is e = grind arith
+
+  pub other-either : (phase ≡ Idle → ⊥) → (phase ≡ Ready → ⊥) → b ≡ false → is_idle (view_phase phase) || is_ready (view_phase phase) ≡ b
+  other-either idle ready e = grind arith
 
 -- whether Cancel is permitted, which the table of permissions answers by the call's number
 pub told-permitted : (b x : Bool) (phase : model.Phase) (id : ℕ) → b ≡ allowed_number phase 6 → not b ≡ x → not (allowed phase (cancel id)) ≡ x
 told-permitted b x phase id told e = ap not (by_number phase (cancel id) ∙ sym told) ∙ e
-
--- the status of a sound state, by its number
-pub shown : (phase : model.Phase) (n : ℕ) → n ≡ phase_number phase → get_or statuses n 0 ≡ shown_as phase
-shown phase n e = ap (λ (k : ℕ). get_or statuses k 0) e
 
 -- whether needs are not met in the staged table
 pub needs-of-staged : (session : Session) → session.count ≤ entries_most → length session.beginning.clusters ≡ clusters_most
@@ -217,10 +228,5 @@ pub needs-of-staged : (session : Session) → session.count ≤ entries_most →
     → not met ≡ not (needs_met (staged (view_session session)))
 needs-of-staged session few long ok t met e f =
     ap not (f ∙ ap (λ (z : Table). needs_met (view_table z)) e ∙ ap needs_met (view-staged session few long ok))
-
--- a call whose case is known
-pub by-case : (s : State) (store : Store) (call case : OldCall) (r : OldAnswered) → call ≡ case
-    → old_outcome r store ≡ exact_old_step s store case → old_outcome r store ≡ exact_old_step s store call
-by-case s store call case r is given = rw is given
 
 pub ruleset old-ways = (answer-unsound, pass-sound, on-sound, answer-first, pass-answer, answer-made, left-by-state, left-by-id)

@@ -7,29 +7,25 @@ use Rattle.model.specs.State.{Store}
 use Rattle.model.specs.Sound.{sound}
 use Rattle.model.specs.Layers.{EventOutcome, event_outcome, view_outcome_by}
 use Rattle.state.specs.declared.state.State.{State}
+use Rattle.state.specs.declared.answer.Answer.{Answer}
 use Rattle.state.specs.declared.answer.Answered.{Answered}
 use Rattle.state.specs.View.{view_state}
-use Rattle.state.specs.Outcome.{is_refusal}
+use Rattle.state.specs.Outcome.{is_refusal, answered}
 use Rattle.manager.specs.Accepts.{exact_step}
 use Rattle.four_state.specs.declared.call.OldCall.{OldCall}
-use Rattle.four_state.specs.declared.answer.OldAnswered.{OldAnswered}
 use Rattle.four_state.specs.OldCalls.{twelve_of, further_answers, old_answers, begun_unless}
 
--- an old call's answer with the state
-abbrev pub old_answered : ℕ → State → OldAnswered
-old_answered answer s = record { answer = answer; state = s }
-
 -- what an old call gives: its answer, and the state and store then
-abbrev pub old_outcome : OldAnswered → Store → EventOutcome State ℕ
+abbrev pub old_outcome : Answered ℕ → Store → EventOutcome State ℕ
 old_outcome r store = event_outcome r.answer r.state store
 
 -- the same as the model has it
-abbrev pub view_old_answered : OldAnswered → Store → EventOutcome model.State ℕ
+abbrev pub view_old_answered : Answered ℕ → Store → EventOutcome model.State ℕ
 view_old_answered r store = view_outcome_by view_state (old_outcome r store)
 
 -- by what the twelve's call gave: 0 where it was accepted, and a number "for any other refusal"
-abbrev pub answered_by : Answered → ℕ → OldAnswered
-answered_by made other = old_answered (cond (is_refusal made.answer) other 0) made.state
+abbrev pub answered_by : Answered Answer → ℕ → Answered ℕ
+answered_by made other = answered (cond (is_refusal made.answer) other 0) made.state
 
 -- "A call answered by anything but 0 changes nothing.": the very State that was handed in comes back; for 0 it is that of the twelve's call
 unfoldable pub exact_begun_unless : State → Store → OldCall → Option ℕ → EventOutcome State ℕ

@@ -24,14 +24,13 @@ const STATUS: [u8; 9] = [
 const NOT_SOUND: u8 = 255;
 
 // Gives the status of any state and bytes.
+#[tactic(auto, unfolding(crate::specs::OldCalls::status_of))]
 pub fn status(s: State, store: &[u8]) -> u8
     ensures { result ≡ status_of (view_state s) store.now }
 {
     if !sound(s, store.len()) {
         return NOT_SOUND;
     }
-    let phase = s.phase;
-    let number = phase_number(phase);
     let status = STATUS;
-    status[number]
+    status[phase_number(s.phase)]
 }

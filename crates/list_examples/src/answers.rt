@@ -31,17 +31,13 @@ fn show_answer(rt: &HostRuntime, kind: u32, value: u32) -> io::Result<()> {
     }
 }
 
-// Prints the answers in the first so many words, two for each.
-pub fn show_answers(rt: &HostRuntime, words: &[u32], count: usize) -> io::Result<()> {
-    let mut i = 0;
-    while i < count {
-        if words.len() - i < 2 {
-            return Ok(());
-        }
+// Prints the answers of so many calls, two words for each.
+pub fn show_answers(rt: &HostRuntime, words: &[u32], calls: usize) -> io::Result<()> {
+    let (answers, _) = words.as_chunks::<2>();
+    for [kind, value] in answers.iter().take(calls) {
         show::byte(rt, b' ')?;
-        show_answer(rt, words[i], words[i + 1])?;
+        show_answer(rt, *kind, *value)?;
         show::byte(rt, b',')?;
-        i += 2;
     }
     Ok(())
 }
@@ -49,7 +45,6 @@ pub fn show_answers(rt: &HostRuntime, words: &[u32], count: usize) -> io::Result
 // Prints the number of the manager's state, which ends the line.
 pub fn show_state(rt: &HostRuntime, s: State) -> io::Result<()> {
     show::bytes(rt, b" state ")?;
-    let phase = s.phase;
-    show::count(rt, phase_number(phase))?;
+    show::count(rt, phase_number(s.phase))?;
     show::byte(rt, b'\n')
 }

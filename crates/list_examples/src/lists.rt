@@ -6,16 +6,22 @@ use crate::answers::{show_answers, show_state};
 use crate::words::put_words;
 use c_interface::wozkindu_load_and_run;
 use call_list::loaded::load_and_run;
-use call_list::{ListReply, RepliedList, run};
-use cases::case::field;
+use call_list::{ListReply, run};
+use cases::case::{field, without_end};
 use cases::show;
 use cases::values::number_of;
 use clusters::table::empty_table;
+use state::answer::Answered;
 use state::state::loaded_state;
 use std::io;
 
 // Runs the list from the table of the case.
-fn run_list(case: &[u8], words: &[u32], store: &mut [u8], answers: &mut [u32]) -> RepliedList {
+fn run_list(
+    case: &[u8],
+    words: &[u32],
+    store: &mut [u8],
+    answers: &mut [u32],
+) -> Answered<ListReply> {
     let first = number_of(field(case, 1));
     let handed_in = loaded_state(empty_table(), 1);
     load_and_run(
@@ -32,14 +38,13 @@ fn run_list(case: &[u8], words: &[u32], store: &mut [u8], answers: &mut [u32]) -
 // Prints the answers of a list that was made, and the state then; or why none was made.
 fn show_replied(
     rt: &HostRuntime,
-    list: RepliedList,
+    list: Answered<ListReply>,
     answers: &[u32],
-    count: usize,
+    calls: usize,
 ) -> io::Result<()> {
-    let reply = list.reply;
-    match reply {
+    match list.answer {
         ListReply::Made => {
-            show_answers(rt, answers, count)?;
+            show_answers(rt, answers, calls)?;
             show_state(rt, list.state)
         }
         ListReply::BadLoad => show::bytes(rt, b" refused 20\n"),
@@ -56,7 +61,7 @@ fn show_list(
     answers: &mut [u32],
 ) -> io::Result<()> {
     let list = run_list(case, words, store, answers);
-    show_replied(rt, list, answers, words.len() / 3)
+    show_replied(rt, list, answers, words.len() / 6)
 }
 
 // Makes the list as a program in C does, and prints the number that it is answered.
@@ -106,7 +111,7 @@ fn show_further_call(
 ) -> io::Result<()> {
     let before = run_list(case, words, store, answers);
     let list = run(before.state, store, row, field(case, 5), answers);
-    show_replied(rt, list, answers, row.len() / 3)
+    show_replied(rt, list, answers, row.len() / 6)
 }
 
 fn play_further_call(rt: &HostRuntime, case: &[u8], words: &[u32], text: &[u8]) -> io::Result<()> {
@@ -119,12 +124,8 @@ fn play_further_call(rt: &HostRuntime, case: &[u8], words: &[u32], text: &[u8]) 
 
 fn play_further(rt: &HostRuntime, case: &[u8], words: &[u32]) -> io::Result<()> {
     show::byte(rt, b'\n')?;
-    let further = field(case, 4);
-    let mut at = 0;
-    while at < further.len() {
-        let end = byte_search::find(further, at, further.len(), b'\n');
-        play_further_call(rt, case, words, &further[at..end])?;
-        at = end + 1;
+    for text in field(case, 4).split_inclusive(|b| *b == b'\n') {
+        play_further_call(rt, case, words, without_end(text, b'\n'))?;
     }
     Ok(())
 }
@@ -132,7 +133,7 @@ fn play_further(rt: &HostRuntime, case: &[u8], words: &[u32]) -> io::Result<()> 
 // Plays a case; the words lend the room for the list.
 fn play_in(rt: &HostRuntime, case: &[u8], words: &mut [u32]) -> io::Result<()> {
     let count = put_words(words, field(case, 3));
-    if field(case, 4).len() == 0 {
+    if field(case, 4).is_empty() {
         play_list(rt, case, &words[..count])
     } else {
         play_further(rt, case, &words[..count])

@@ -11,14 +11,13 @@ use crate::lists::play;
 use cases::input::read_full;
 use std::io;
 
-// Plays each case, from behind its `#` to the next.
+// Plays each case, from behind its `#` to the next. The first byte is the first `#`.
 fn play_all(rt: &HostRuntime, input: &[u8]) -> io::Result<()> {
-    let mut at = 0;
-    while at < input.len() {
-        let from = at + 1;
-        let end = byte_search::find(input, from, input.len(), b'#');
-        play(rt, &input[from..end])?;
-        at = end;
+    let Some((_, cases)) = input.split_first() else {
+        return Ok(());
+    };
+    for case in cases.split(|b| *b == b'#') {
+        play(rt, case)?;
     }
     Ok(())
 }

@@ -1,58 +1,42 @@
 -- One turn of the loop over the listed actions: what the columns of the table and of the list say of the entry at i. Assumes nothing.
 use Prim.Native.Nat.{ℕ, ◌+◌, ◌≤◌, ◌<◌}
 use mathlib.Core.Path.{◌≡◌, refl, sym, ap, ◌∙◌}
-use mathlib.Core.Bool.{Bool, true, false}
+use mathlib.Core.Bool.{Bool, true, false, not}
 use mathlib.Core.List.{List, [], ◌∷◌, ◌++◌, map}
 use native.Mathlib.Omega.{arith}
 use native.Mathlib.Numerals.{add-one}
 use lib.Dec.{eqb}
 use lib.ListN.{length, take, drop, get_or, length-map, length-take, get_or-map}
 use lib.Seq.{get_or-take, take-suc, take-take}
-use Rattle.base.specs.Refusals.{first_refusal, number_or_zero}
+use Rattle.std.specs.Prelude.{Result, Ok, Err}
+use Rattle.std.specs.Result.{is_err}
+use Rattle.base.specs.Refusals.{first_refusal, none_applies}
+use Rattle.base.proofs.Refusals.{accepted-none, none-accepted}
+use Rattle.base.proofs.Tests.{bool_cases, none-some}
+use Rattle.refusal.specs.declared.Refusal.{Refusal}
+use Rattle.refusal.specs.Number.{refused_with}
 use Rattle.base.proofs.Counted.{from_step}
-use Rattle.base.proofs.RefusalNumbers.{zero-passes}
-use Rattle.text.specs.declared.version.Version.{Version}
-use Rattle.place_in_list.specs.declared.Found.{Found}
-use Rattle.place_in_list.specs.declared.Found.TheVariants.{At, Nothing}
-use Rattle.place_in_list.specs.Place.{place_or}
-use Rattle.clusters.specs.declared.columns.Columns.{Columns}
 use Rattle.clusters.specs.Table.{Table, find}
 use Rattle.clusters.specs.View.{view_cluster}
-use Rattle.clusters.specs.Place.{place_among}
-use Rattle.clusters.specs.Columns.{ColumnsOf}
-use Rattle.clusters.proofs.ColumnLaws.{place-below, none-among, found_among}
 use Rattle.actions.specs.Action.{Action, install, update, remove, action_part}
 use Rattle.actions.specs.Refusals.{touched, staged_refusals}
-use Rattle.actions.specs.Staged.{staged_as}
 use Rattle.actions.proofs.StagedLaws.{part_of}
 use Rattle.actions.proofs.Arrays.{map-take}
 use Rattle.state.specs.declared.session.Entry.{Entry}
 use Rattle.listed_actions.specs.Listed.{is_among, entry_action, listed_actions, entry_part}
-use Rattle.listed_actions.specs.InTurn.{passes_untouched, staged_after, pass_in_turn_on, staged_at}
-
--- ---- the place of an old version is in the array
-
-pub place-or-first-below : (part n most : ℕ) (l : List ℕ) (place : Found) → n ≤ most → 1 ≤ most → place ≡ place_among 0 part (take n l) → place_or 0 place < most
-place-or-first-below part n most l Nothing few room e = omega arith
-place-or-first-below part n most l (At i) few room e = omega (arith, place-below part n l i (sym e))
+use Rattle.listed_actions.specs.InTurn.{passes_untouched, staged_after, pass_in_turn_on}
 
 -- ---- 12 to 15 and 21 by what is found in the columns
 
--- the place that is found in the columns of a table says what the table has under the part number; v and stays stand in for places past
--- the columns
-pub staged-by-place : (columns : Columns) (t : Table) → ColumnsOf columns t → (part : ℕ) (v : Version) (stays : Bool) (place : Found)
-    → place ≡ place_among 0 part (take columns.count columns.parts)
-    → staged_at place (get_or columns.versions (place_or 0 place) v) (get_or columns.marks (place_or 0 place) stays) ≡ staged_as (find part t)
-staged-by-place columns t of part v stays Nothing e = sym (ap staged_as (none-among columns t of part (sym e)))
-staged-by-place columns t of part v stays (At i) e =
-    let p = found_among columns t of part i v stays (sym e) in
-    rw (p.same_version, p.same-mark) (sym (ap staged_as p.there))
-
--- the action passes exactly where the number of the first refusal is 0
-pub zero-untouched : (t : Table) (n : ℕ) (a : Action) (part r : ℕ) → part ≡ action_part a
-    → r ≡ number_or_zero (first_refusal (staged_refusals (find part t) n a)) → eqb r 0 ≡ passes_untouched t n a
+-- the check refuses exactly where the action does not pass
+pub refused-untouched : (t : Table) (n : ℕ) (a : Action) (part : ℕ) (r : Result (Unit {0}) Refusal) → part ≡ action_part a
+    → refused_with r ≡ first_refusal (staged_refusals (find part t) n a) → is_err r ≡ not (passes_untouched t n a)
 unfolding passes_untouched
-zero-untouched t n a part r same told = zero-passes (staged_refusals (find (action_part a) t) n a) r refl (rw same at told)
+refused-untouched t n a part (Ok value) same told =
+    sym (ap not (none-accepted (staged_refusals (find (action_part a) t) n a) (sym (rw same at told))))
+refused-untouched t n a part (Err refusal) same told =
+    let rs = staged_refusals (find (action_part a) t) n a in
+    bool_cases (none_applies rs) (λ h. none-some (sym (accepted-none rs h) ∙ sym (rw same at told))) λ h. sym (ap not h)
 
 -- ---- the list's columns
 

@@ -2,14 +2,9 @@
 -- once, so what is staged of an untouched one is what the beginning table has. proofs/Untouched.antt shows that it is `pass_in_turn`.
 use Rattle.std.specs.Prelude.{ℕ, ◌+◌, ◌-◌, ◌≡◌, Bool, true, not, ◌&&◌, List, [], ◌∷◌, ◌++◌}
 use Rattle.base.specs.Refusals.{none_applies}
-use Rattle.text.specs.declared.version.Version.{Version}
-use Rattle.place_in_list.specs.declared.Found.{Found}
-use Rattle.place_in_list.specs.declared.Found.TheVariants.{At, Nothing}
 use Rattle.clusters.specs.declared.columns.Columns.{Columns}
 use Rattle.clusters.specs.Table.{Table, find, table_within}
 use Rattle.clusters.specs.Columns.{ColumnsOf}
-use Rattle.actions.specs.declared.refusals.Staged.{Staged}
-use Rattle.actions.specs.declared.refusals.Staged.TheVariants as staged
 use Rattle.actions.specs.Action.{Action, install, update, remove, action_part, actions_within}
 use Rattle.actions.specs.Refusals.{touched, staged_refusals, pass_in_turn}
 use Rattle.state.specs.declared.session.Entry.{Entry}
@@ -34,13 +29,6 @@ pass_in_turn_on beginning staged listed [] = true
 pass_in_turn_on beginning staged listed (a ∷ rest) =
     not (touched (action_part a) listed)
     && (passes_untouched beginning staged a && pass_in_turn_on beginning (staged_after a staged) (listed ++ a ∷ []) rest)
-
--- ---- the same by what the columns of the table have
-
--- what is staged of the cluster with that place, where its version and mark stand
-abbrev pub staged_at : Found → Version → Bool → Staged
-staged_at (At i) version stays = staged.At version stays
-staged_at Nothing version stays = staged.Nothing
 
 -- ---- what `pass_in_turn` answers
 

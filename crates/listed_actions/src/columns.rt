@@ -3,7 +3,6 @@ ghost use Rattle.std.specs.Prelude.{◌≡◌, ◌≤◌, length, take};
 ghost use Rattle.state.specs.View.{entries_most};
 ghost use Rattle.listed_actions.specs.Listed.{is_among, EntryColumnsOf};
 
-use place_in_list::{Found, place_of};
 use state::limits::ENTRIES_MOST;
 use state::session::Entry;
 
@@ -22,19 +21,12 @@ pub fn entry_columns(entries: [Entry; ENTRIES_MOST], count: usize) -> EntryColum
 {
     let mut ids = [0u32; ENTRIES_MOST];
     let mut parts = [0u32; ENTRIES_MOST];
-    let mut i = 0;
-    while i < count {
+    for i in 0..count {
         let entry = entries[i];
-        let action = entry.action;
-        let cluster = action.cluster;
         ids[i] = entry.id;
-        parts[i] = cluster.part;
-        i += 1;
+        parts[i] = entry.action.cluster.part;
     }
-    EntryColumns {
-        ids: ids,
-        parts: parts,
-    }
+    EntryColumns { ids, parts }
 }
 
 // Says whether a number is among the first of a column. Precondition: the count is at most 16 and the column has 16 places; its callers
@@ -43,8 +35,5 @@ pub fn is_among(numbers: &[u32; ENTRIES_MOST], count: usize, number: u32) -> boo
     requires { (count ≤ entries_most) × (length numbers.now ≡ entries_most) }
     ensures { result ≡ is_among number (take count numbers.now) }
 {
-    match place_of(numbers, count, number) {
-        Found::At(_) => true,
-        Found::Nothing => false,
-    }
+    numbers[..count].contains(&number)
 }

@@ -1,40 +1,29 @@
 // The refusals 11 to 15 and 21 of the listed actions, in turn.
 ghost use Rattle.std.specs.Prelude.{◌≡◌, ◌+◌, ◌≤◌, ◌<◌};
-ghost use Rattle.place_in_list.specs.Place.{place_or};
 ghost use Rattle.clusters.specs.Cluster.{Cluster as PlainCluster};
-ghost use Rattle.clusters.specs.Table.{clusters_most};
+ghost use Rattle.clusters.specs.Table.{Table as PlainTable, find, clusters_most};
+ghost use Rattle.clusters.specs.Columns.{ColumnsOf};
+ghost use Rattle.actions.specs.Staged.{staged_as};
 ghost use Rattle.actions.specs.View.{action_of};
 ghost use Rattle.state.specs.View.{entries_most};
-ghost use Rattle.listed_actions.specs.InTurn.{staged_at, staged_after, PassesInTurn};
+ghost use Rattle.listed_actions.specs.InTurn.{staged_after, PassesInTurn};
 
 use crate::columns::{entry_columns, is_among};
 use actions::action::Change;
 use actions::refusals::{Staged, staged_refusal};
 use clusters::columns::{Columns, place_of};
-use place_in_list::Found;
 use state::limits::ENTRIES_MOST;
 use state::session::Entry;
-use text::version::Version;
 
-// Gives a place to read a version and a mark at: the cluster's in the columns, and the first where it is not there.
-fn place_or_first(place: Found) -> usize
-    ensures { result ≡ place_or 0 place }
+// Looks up what the table with these columns has under a part number.
+fn staged_in(columns: &Columns, part: u32) -> Option<Staged>
+    ensures { (t : PlainTable) → ColumnsOf columns.now t → result ≡ staged_as (find part t) }
 {
-    match place {
-        Found::At(i) => i,
-        Found::Nothing => 0,
-    }
-}
-
-// Says what is staged of a cluster by its place in the beginning table, where no listed action touches it. The version and the mark are
-// those at that place.
-fn staged_at(place: Found, version: Version, stays: bool) -> Staged
-    ensures { result ≡ staged_at place version stays }
-{
-    match place {
-        Found::At(_) => Staged::At(version, stays),
-        Found::Nothing => Staged::Nothing,
-    }
+    let at = place_of(&columns.parts, columns.count, part)?;
+    Some(Staged {
+        version: columns.versions[at],
+        stays: columns.marks[at],
+    })
 }
 
 // Counts the staged clusters after a change. Precondition: they are fewer than a table and a list have room for together; `pass_in_turn`
@@ -46,39 +35,29 @@ fn staged_after(change: Change, staged: usize) -> usize
     match change {
         Change::Install => staged + 1,
         Change::Update => staged,
-        Change::Remove => if staged < 1 { 0 } else { staged - 1 },
+        Change::Remove => staged.saturating_sub(1),
     }
 }
 
 // Says whether the first count of the listed actions pass 11 to 15 and 21 in turn on the table that the columns are of, where the table and
-// the actions are within their limits. Precondition: both counts fit their arrays; `soundness` has checked the limits of the table and
-// requires the count of entries.
+// the actions are within their limits. Precondition: the count fits the array; `soundness` requires it.
 pub fn pass_in_turn(columns: Columns, entries: [Entry; ENTRIES_MOST], count: usize) -> bool
-    requires { (columns.count ≤ clusters_most) × (count ≤ entries_most) }
+    requires { count ≤ entries_most }
     ensures { PassesInTurn columns entries count result }
 {
     let listed = entry_columns(entries, count);
-    let clusters = columns.count;
-    let mut staged = clusters;
-    let mut i = 0;
-    while i < count {
-        let entry = entries[i];
-        let action = entry.action;
+    let mut staged = columns.count;
+    for i in 0..count {
+        let action = entries[i].action;
         let cluster = action.cluster;
         if is_among(&listed.parts, i, cluster.part) {
             return false;
         }
-        let place = place_of(&columns.parts, clusters, cluster.part);
-        let at = place_or_first(place);
-        let old = columns.versions[at];
-        let stays = columns.marks[at];
-        let change = action.change;
-        let version = cluster.version;
-        if staged_refusal(staged_at(place, old, stays), staged, change, version) != 0 {
+        let old = staged_in(&columns, cluster.part);
+        if staged_refusal(old, staged, action.change, cluster.version).is_err() {
             return false;
         }
-        staged = staged_after(change, staged);
-        i += 1;
+        staged = staged_after(action.change, staged);
     }
     true
 }

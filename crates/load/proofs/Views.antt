@@ -21,6 +21,7 @@ use Rattle.model.specs.Step as step
 use Rattle.model.specs.Sound.{sound}
 use Rattle.model.proofs.soundness.LoadSound.{loads-says, load-refused, load-sound}
 use Rattle.state.specs.declared.state.State.{State}
+use Rattle.state.specs.declared.answer.Answer.{Answer}
 use Rattle.state.specs.declared.answer.Answered.{Answered}
 use Rattle.state.specs.View.{view_state}
 use Rattle.state.specs.Exact.{loaded_state}
@@ -50,7 +51,7 @@ module _ (s : State) (list : List ℕ) (first : ℕ) (store : Store) where
       λ e. ap (λ s'. step.outcome calls.done s' zeros) (view-accepted (not-refused (is_bad_load list first store) e))
 
   -- what the public call says, from the equation of its structs
-  module _ (r : Answered) (after : Store) (exact : outcome r after ≡ load s list first store) where
+  module _ (r : Answered Answer) (after : Store) (exact : outcome r after ≡ load s list first store) where
     meaning : view_outcome (outcome r after) ≡ model.load (view_state s) list first store
     meaning = ap view_outcome exact ∙ view-load
 

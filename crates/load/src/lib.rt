@@ -6,14 +6,14 @@ ghost use Rattle.std.specs.Prelude.{◌≡◌};
 ghost use Rattle.state.specs.Outcome.{outcome, view_answered, SoundIfAccepted};
 ghost use Rattle.load.specs.Exact.{load, model_load};
 
-use cluster_list::read::{ListAnswer, read_list};
+use cluster_list::read::read_list;
 use refusal::BAD_LOAD;
 use state::answer::{Answer, Answered, answer_with, refused};
 use state::limits::STORE_MOST;
 use state::state::{State, loaded_state};
 
 // Checks first what is cheap to check: every refusal has the same number.
-pub fn load(s: State, list: &[u8], first: u32, store: &mut [u8]) -> Answered
+pub fn load(s: State, list: &[u8], first: u32, store: &mut [u8]) -> Answered<Answer>
     ensures meaning { view_answered result store.new ≡ model_load s list.now first store.old }
     ensures exact { outcome result store.new ≡ load s list.now first store.old }
     ensures sound { SoundIfAccepted (outcome result store.new) }
@@ -24,12 +24,10 @@ pub fn load(s: State, list: &[u8], first: u32, store: &mut [u8]) -> Answered
     if first < 1 {
         return refused(s, BAD_LOAD);
     }
-    let read = read_list(list);
-    let answer = read.answer;
-    let ListAnswer::WellFormed = answer else {
+    let Some(table) = read_list(list) else {
         return refused(s, BAD_LOAD);
     };
-    let loaded = loaded_state(read.table, first);
+    let loaded = loaded_state(table, first);
     store::clear(store);
     answer_with(Answer::Done, loaded)
 }

@@ -14,6 +14,7 @@ use Rattle.model.specs.Calls.{Call, transfer_start, transfer_data, transfer_exit
 use Rattle.model.specs.Calls as calls
 use Rattle.state.specs.declared.state.State.{State}
 use Rattle.state.specs.declared.work.Work.{Work}
+use Rattle.state.specs.declared.answer.Answer.{Answer}
 use Rattle.state.specs.declared.answer.Answered.{Answered}
 use Rattle.state.specs.declared.phase.Phase.{Phase}
 use Rattle.state.specs.declared.phase.Phase.TheVariants.{Idle, Ready, Processing, Activating, Verifying, Activated, RollingBack, RolledBack, CleaningUp}
@@ -36,7 +37,7 @@ never : {X : Type 0} (answer : calls.Answer) (number : ℕ) → accepted answer 
 never answer number e = let z : ◌≡◌ {A = Bool} true false = cc in absurd (true≢false z)
 
 module _ (s : State) (store : Store) where
-  abbrev Back : Answered → Type 0
+  abbrev Back : Answered Answer → Type 0
   Back a = GivesBack s store (outcome a store)
 
   sum_back : (i : ℕ) (w : Work) → Back (sum_compared s.transfers i s.session w)

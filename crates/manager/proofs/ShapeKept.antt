@@ -10,8 +10,8 @@ use lib.ListN.{length, take, length-append, length-take, length-drop}
 use borrow.Author.Tests.{leb-false}
 use Rattle.base.specs.Refusals.{first_refusal}
 use Rattle.base.proofs.Tests.{cond_cases}
-use Rattle.place_in_list.specs.declared.Found.{Found}
-use Rattle.place_in_list.specs.declared.Found.TheVariants.{At, Nothing}
+use Rattle.std.specs.Prelude.{None, Some}
+use Rattle.place_in_list.specs.Place.{Found}
 use Rattle.clusters.specs.declared.table.Table.{Table}
 use Rattle.clusters.specs.Table.{needs_met, clusters_most}
 use Rattle.clusters.specs.View.{view_table}
@@ -31,6 +31,7 @@ use Rattle.state.specs.declared.phase.Phase.{Phase}
 use Rattle.state.specs.declared.phase.Phase.TheVariants.{Idle, Ready, Processing, Activating, Verifying, Activated, RollingBack, RolledBack, CleaningUp}
 use Rattle.state.specs.declared.work.Work.{Work}
 use Rattle.state.specs.declared.state.State.{State}
+use Rattle.state.specs.declared.answer.Answer.{Answer}
 use Rattle.state.specs.declared.answer.Answered.{Answered}
 use Rattle.state.specs.View.{view_packages, view_state}
 use Rattle.state.specs.Exact.{state}
@@ -57,9 +58,9 @@ unfolding with_changed
 changed-room s store id change ok long = go (place_of id (view_packages s.transfers)) refl
   where
     go : (found : Found) → place_of id (view_packages s.transfers) ≡ found → length (changed_at change s.transfers found).packages ≡ packages_most
-    go Nothing e = long
-    go (At i) e =
-        let here = found_at s store id i (At i) ok long (sym e) refl in
+    go None e = long
+    go (Some i) e =
+        let here = found_at s store id i (Some i) ok long (sym e) refl in
         length-put i _ s.transfers.packages (omega (arith, long, here.inside.few, here.inside.below)) ∙ long
 
 -- the packages that a deletion keeps, at the front
@@ -99,7 +100,7 @@ module _ (s : State) (store : Store) (shape : Shaped s) where
   report-shaped : (phase : Phase) (good : Bool) → Shaped (phase_reported s store phase good).answered.state
   unfolding phase_reported
   report-shaped Activating good =
-      let P : Answered → Type 0 = λ given. Shaped given.state in
+      let P : Answered Answer → Type 0 = λ given. Shaped given.state in
       cond_cases P (needs_met (view_table (staged_table s.session))) _ _ (λ met. cond_cases P good _ _ (λ well. same_shape) λ failed. same_shape)
       λ missing. same_shape
   report-shaped Verifying true = same_shape

@@ -11,7 +11,7 @@ ghost use Rattle.manager.specs.Accepts.{exact_step, exact_step_on_sound, request
 use cancel_processing::cancel_on_sound;
 use delete_transfer::delete_transfer_on_sound;
 use process_package::process_on_sound;
-use refusal::BAD_STATE;
+use refusal::Refusal;
 use report::report_on_sound;
 use request::Request;
 use session_calls::activate::activate_on_sound;
@@ -19,7 +19,7 @@ use session_calls::finish::finish_on_sound;
 use session_calls::revert::revert_on_sound;
 use session_calls::rollback::rollback_on_sound;
 use soundness::sound::sound;
-use state::answer::{Answered, refused};
+use state::answer::{Answer, Answered, refuse};
 use state::state::State;
 use transfer_data::transfer_data_on_sound;
 use transfer_exit::transfer_exit_on_sound;
@@ -27,7 +27,7 @@ use transfer_start::transfer_start_on_sound;
 use work_on_payload::work_on_sound;
 
 // Makes a call after refusal 1. Only TransferData has a block. Precondition: the state is sound for the store; `call_after_check` tests it.
-fn call_on_sound(s: State, store: &mut [u8], request: Request, block: &[u8]) -> Answered
+fn call_on_sound(s: State, store: &mut [u8], request: Request, block: &[u8]) -> Answered<Answer>
     requires { sound_for (view_state s) (length store.old) ≡ true }
     ensures { outcome result store.new ≡ exact_step_on_sound s store.old (call_of request block.now) }
 {
@@ -55,20 +55,20 @@ pub fn call_after_check(
     store: &mut [u8],
     request: Request,
     block: &[u8],
-) -> Answered
+) -> Answered<Answer>
     requires { is_sound ≡ sound_for (view_state s) (length store.old) }
     ensures meaning { view_answered result store.new ≡ request_step s store.old request block.now }
     ensures exact { outcome result store.new ≡ exact_step s store.old (call_of request block.now) }
     ensures sound { SoundIfAccepted (outcome result store.new) }
 {
     if !is_sound {
-        return refused(s, BAD_STATE);
+        return refuse(s, Refusal::BadState);
     }
     call_on_sound(s, store, request, block)
 }
 
 // Makes one of the twelve changing calls, from any state and bytes.
-pub fn call(s: State, store: &mut [u8], request: Request, block: &[u8]) -> Answered
+pub fn call(s: State, store: &mut [u8], request: Request, block: &[u8]) -> Answered<Answer>
     ensures meaning { view_answered result store.new ≡ request_step s store.old request block.now }
     ensures exact { outcome result store.new ≡ exact_step s store.old (call_of request block.now) }
     ensures sound { SoundIfAccepted (outcome result store.new) }

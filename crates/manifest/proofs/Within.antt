@@ -1,19 +1,20 @@
 -- What is read from a package's text is within the limits, the text with the payload is the whole area, and the struct that
 -- the code gives stands for it. Assumes nothing.
-use mathlib.Core.Path.{◌≡◌, subst}
+use mathlib.Core.Path.{◌≡◌, refl, subst}
 use mathlib.Core.Bool.{true, ◌&&◌}
 use mathlib.Core.List.{List, [], ◌∷◌}
-use mathlib.Core.Option.{Option, none, some}
 use Prim.Native.Nat.{ℕ, zero, suc, ◌+◌, ◌≤◌}
 use native.Mathlib.Omega.{arith}
 use lib.Dec.{eqb}
 use lib.ListN.{length, drop, length-append}
 use borrow.Author.Tests.{eqb-true}
+use Rattle.std.specs.Prelude.{Option, Some, None}
 use Rattle.base.proofs.Tests.{cond_cases}
+use Rattle.text.proofs.ThenLaws.{then-cases, then-cases-some}
+use Rattle.text.specs.declared.cursor.Cursor.{Cursor}
 use Rattle.rows.specs.declared.columns.PackageColumns.{PackageColumns}
 use Rattle.rows.specs.Line.{line_from}
 use Rattle.rows.specs.Columns.{package_columns}
-use Rattle.rows.proofs.ThenLaws.{then-cases-line, then-cases-package-columns}
 use Rattle.clusters.specs.declared.cluster.Need.{Need}
 use Rattle.actions.specs.declared.action.Change.{Change}
 use Rattle.actions.specs.declared.action.Change.TheVariants.{Install, Update, Remove}
@@ -23,9 +24,8 @@ use Rattle.actions.specs.Struct.{struct_action}
 use Rattle.actions.proofs.Structs.{view-struct-action}
 use Rattle.actions.specs.View.{view_action, action_of}
 use Rattle.cluster_list.specs.Cells.{need_fields}
-use Rattle.cluster_list.proofs.ThenLaws.{then-cases-need, then-cases-filled}
 use Rattle.cluster_list.proofs.CellsWithin.{need-read-within}
-use Rattle.cluster_list.proofs.Within.{then-cases-some, with-need-within}
+use Rattle.cluster_list.proofs.Within.{with-need-within}
 use Rattle.package_heading.specs.Heading.{payload_most, sum_most, first_line}
 use Rattle.package_heading.proofs.Within.{HeadingFacts, HeadingWithin, HasCluster, installs, updates, action-fine, first-line-within}
 use Rattle.manifest.specs.Package.{Manifest, PackageRead, ill_formed, inconsistent, consistent, no_cluster, no_payload, only_need, Text, is_empty_line, further_lines, further_most, package_with, read_package}
@@ -33,20 +33,23 @@ use Rattle.manifest.specs.Package.{Manifest, PackageRead, ill_formed, inconsiste
 -- ---- the further value lines
 
 abbrev NeedIn : Option Need → Type 0
-NeedIn none = Unit {0}
-NeedIn (some n) = need_within n ≡ true
+NeedIn None = Unit {0}
+NeedIn (Some n) = need_within n ≡ true
 
 only-need-within : (columns : PackageColumns) (l : List ℕ) → NeedIn (only_need columns l)
 unfolding only_need
 only-need-within columns l =
     cond_cases NeedIn (no_payload columns l && no_cluster columns.cluster_columns l) _ _
-    (λ b. then-cases-need NeedIn none (need_fields columns.cluster_columns l) _ tt λ need next e.
-    then-cases-filled NeedIn none need some tt λ n f. need-read-within _ _ need next e n f)
+    (λ b. then-cases NeedIn None (need_fields columns.cluster_columns l) _ tt λ need next e. read need next e)
     λ b. tt
+  where
+    read : (need : Option Need) (next : Cursor) → need_fields columns.cluster_columns l ≡ Some (need, next) → NeedIn need
+    read None next e = tt
+    read (Some n) next e = need-read-within _ _ (Some n) next e n refl
 
 abbrev TextWithin : Change → Option Text → Type 0
-TextWithin change none = Unit {0}
-TextWithin change (some t) = action_within (action_of change t.cluster) ≡ true
+TextWithin change None = Unit {0}
+TextWithin change (Some t) = action_within (action_of change t.cluster) ≡ true
 
 cluster-lines-within : (change : Change) → HasCluster change → (lines : ℕ) (columns : PackageColumns) (s : List ℕ) (at : ℕ) (c : Cluster)
     → cluster_within c ≡ true → length c.needs + lines ≤ needs_most → TextWithin change (further_lines lines columns s at c)
@@ -56,8 +59,8 @@ cluster-lines-within change has zero columns s at c h r =
 cluster-lines-within change has (suc lines) columns s at c h r =
     let ih : (next : ℕ) (d : Cluster) → cluster_within d ≡ true → length d.needs + lines ≤ needs_most → TextWithin change (further_lines lines columns s next d) = cluster-lines-within change has lines columns s in
     cond_cases (TextWithin change) (is_empty_line s at) _ _ (λ b. action-fine has c h) λ b.
-    then-cases-line (TextWithin change) none (line_from 6 at (drop at s)) _ tt λ next e.
-    then-cases-some (TextWithin change) none (only_need columns (drop at s)) _ tt λ n f.
+    then-cases-some (TextWithin change) None (line_from 6 at (drop at s)) _ tt λ next e.
+    then-cases-some (TextWithin change) None (only_need columns (drop at s)) _ tt λ n f.
     ih next.at (with_need c n)
     (with-need-within c n h (subst NeedIn f (only-need-within columns (drop at s))) (omega arith))
     (rw (length-append c.needs (n ∷ [])) (omega arith))
@@ -79,9 +82,9 @@ ReadWithin s (consistent m) = (action_within m.action ≡ true) × (m.start + m.
 package-within : (s : List ℕ) → ReadWithin s (read_package s)
 unfolding read_package package_with
 package-within s =
-    then-cases-line (ReadWithin s) ill_formed (line_from 6 0 s) _ tt λ first a.
-    then-cases-package-columns (ReadWithin s) ill_formed (package_columns 7 s) _ tt λ columns b.
-    then-cases-line (ReadWithin s) ill_formed (line_from 6 first.at (drop first.at s)) _ tt λ next c.
+    then-cases-some (ReadWithin s) ill_formed (line_from 6 0 s) _ tt λ first a.
+    then-cases-some (ReadWithin s) ill_formed (package_columns 7 s) _ tt λ columns b.
+    then-cases-some (ReadWithin s) ill_formed (line_from 6 first.at (drop first.at s)) _ tt λ next c.
     then-cases-some (ReadWithin s) ill_formed (first_line columns (drop first.at s)) _ tt λ h d.
     let facts : HeadingFacts h = subst HeadingWithin d (first-line-within columns (drop first.at s)) in
     then-cases-some (ReadWithin s) ill_formed (further_lines (further_most h.change) columns s next.at h.cluster) _ tt λ t e.

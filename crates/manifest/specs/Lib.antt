@@ -1,5 +1,4 @@
 pub mod Package
 pub mod Refused
-pub mod Found
 pub mod Answer
 pub mod Open

@@ -1,20 +1,19 @@
 -- "Packages in the store": the text of a package, whose first value line is the crate package_heading's.
-use Rattle.std.specs.Prelude.{ℕ, zero, suc, ◌+◌, Bool, cond, ◌&&◌, List, eqb, length, drop, get_or}
-use Rattle.std.proofs.Math.Option.{Option, none, some}
+use Rattle.std.specs.Prelude.{ℕ, zero, suc, ◌+◌, Bool, cond, ◌&&◌, List, eqb, length, drop, get_or, Option, Some, None}
 use Rattle.base.specs.Quoted.{LF}
+use Rattle.text.specs.Then.{and_then_read, and_then_some}
 use Rattle.rows.specs.declared.columns.ClusterColumns.{ClusterColumns}
 use Rattle.rows.specs.declared.columns.PackageColumns.{PackageColumns}
 use Rattle.rows.specs.Field.{cell, is_empty}
-use Rattle.rows.specs.Line.{line_from, and_then_line}
-use Rattle.rows.specs.Columns.{package_columns, and_then_package_columns}
+use Rattle.rows.specs.Line.{line_from}
+use Rattle.rows.specs.Columns.{package_columns}
 use Rattle.clusters.specs.declared.cluster.Need.{Need}
 use Rattle.actions.specs.declared.action.Change.{Change}
 use Rattle.actions.specs.declared.action.Change.TheVariants.{Install, Update, Remove}
 use Rattle.clusters.specs.Cluster.{Cluster, with_need}
 use Rattle.actions.specs.Action.{Action}
 use Rattle.actions.specs.View.{action_of}
-use Rattle.cluster_list.specs.Cells.{need_fields, and_then_need, and_then_filled}
-use Rattle.cluster_list.specs.Read.{and_then_some}
+use Rattle.cluster_list.specs.Cells.{need_fields}
 use Rattle.package_heading.specs.Heading.{Heading, first_line}
 
 -- what the text of a package says: the action, the payload's start within the area, count and sum
@@ -41,8 +40,8 @@ no_payload columns l = is_empty (cell columns.action l) && (is_empty (cell colum
 unfoldable pub only_need : PackageColumns → List ℕ → Option Need
 only_need columns l =
     cond (no_payload columns l && no_cluster columns.cluster_columns l)
-    (and_then_need none (need_fields columns.cluster_columns l) λ need _. and_then_filled none need some)
-    none
+    (and_then_read None (need_fields columns.cluster_columns l) λ need _. need)
+    None
 
 -- the cluster with the needs of further value lines, and where the payload starts
 pub record Text : Type 0 where
@@ -55,12 +54,12 @@ is_empty_line s at = eqb (get_or s at 0) LF
 
 -- at most the given number of further value lines from a position on, "an empty line, then the payload"
 unfoldable pub further_lines : ℕ → PackageColumns → List ℕ → ℕ → Cluster → Option Text
-further_lines zero columns s at c = cond (is_empty_line s at) (some (record { cluster = c; start = at + 1 })) none
+further_lines zero columns s at c = cond (is_empty_line s at) (Some (record { cluster = c; start = at + 1 })) None
 further_lines (suc lines) columns s at c =
-    cond (is_empty_line s at) (some (record { cluster = c; start = at + 1 }))
-    (and_then_line none (line_from 6 at (drop at s)) λ next.
-    and_then_some none (only_need columns (drop at s)) λ n.
-    further_lines lines columns s next (with_need c n))
+    cond (is_empty_line s at) (Some (record { cluster = c; start = at + 1 }))
+    (and_then_some None (line_from 6 at (drop at s)) λ next.
+    and_then_some None (only_need columns (drop at s)) λ n.
+    further_lines lines columns s next.at (with_need c n))
 
 -- "1 to 4 value lines"; for remove "there is one value line"
 abbrev pub further_most : Change → ℕ
@@ -84,13 +83,13 @@ package_behind columns s next h =
 -- the package whose names line is read, from the position behind it on
 abbrev pub package_from : PackageColumns → List ℕ → ℕ → PackageRead
 package_from columns s first =
-    and_then_line ill_formed (line_from 6 first (drop first s)) λ next.
+    and_then_some ill_formed (line_from 6 first (drop first s)) λ next.
     and_then_some ill_formed (first_line columns (drop first s)) λ h.
-    package_behind columns s next h
+    package_behind columns s next.at h
 
 -- a package's area: names line, value lines, an empty line, the payload. "text before the payload ill-formed": 9
 unfoldable pub read_package : List ℕ → PackageRead
 read_package s =
-    and_then_line ill_formed (line_from 6 0 s) λ first.
-    and_then_package_columns ill_formed (package_columns 7 s) λ columns.
-    package_from columns s first
+    and_then_some ill_formed (line_from 6 0 s) λ first.
+    and_then_some ill_formed (package_columns 7 s) λ columns.
+    package_from columns s first.at

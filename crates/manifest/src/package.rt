@@ -7,34 +7,30 @@ ghost use Rattle.clusters.specs.Struct.{struct_cluster};
 ghost use Rattle.actions.specs.Struct.{struct_action};
 ghost use Rattle.manifest.specs.Package.{package_behind, package_from, read_package};
 ghost use Rattle.package_heading.specs.Found.{plain_heading};
-ghost use Rattle.manifest.specs.Answer.{answer_number, refusal_number, cleared, package_read, PackageEnding};
+ghost use Rattle.manifest.specs.Answer.{answer_number, refusal_number, package_answer, PackageEnding};
 
-use crate::lines::{NeedLine, further_most, is_empty_line, only_need};
-use actions::action::{Action, Change, cleared_action};
+use crate::lines::{further_most, is_empty_line, only_need};
+use actions::action::{Action, Change};
 use cluster_list::cells::cluster_with;
 use clusters::cluster::{Cluster, new_cluster, with_need};
-use package_heading::heading::{Heading, HeadingRead, heading_at};
-use rows::columns::{PackageColumns, PackageColumnsRead, package_columns};
-use rows::line::Line;
+use package_heading::heading::{Heading, heading_at};
+use rows::columns::{PackageColumns, package_columns};
 use rows::reader::line_at;
 use text::cursor::Cursor;
 use text::version::NO_VERSION;
 
-#[derive(Clone, Copy)]
-pub enum PackageAnswer {
-    // The text before the payload is well formed and the payload has its count of bytes.
-    Consistent,
-    // Refusal 9.
+// Why an area has no package to be read.
+#[derive(Clone, Copy, Debug, PartialEq, Eq)]
+pub enum PackageError {
+    // Refusal 9 (InvalidManifest): the text before the payload is ill-formed.
     IllFormed,
-    // Refusal 10.
+    // Refusal 10 (PackageInconsistent): the payload does not have its count of bytes.
     Inconsistent,
 }
 
-// The action, and the payload's start within the area, count and sum, stand beside the answer; they are cleared unless
-// the answer is Consistent.
+// What the text of a package says: the action, and the payload's start within the area, count and sum. The payload has its count of bytes.
 #[derive(Clone, Copy)]
 pub struct PackageRead {
-    pub answer: PackageAnswer,
     pub action: Action,
     pub start: usize,
     pub count: usize,
@@ -48,83 +44,64 @@ fn bare_cluster(part: u32) -> Cluster
     new_cluster(part, NO_VERSION)
 }
 
-// Gives an answer with everything beside it cleared.
-fn no_package(answer: PackageAnswer) -> PackageRead
-    ensures { result ≡ cleared answer }
-{
-    let action = cleared_action();
-    PackageRead {
-        answer: answer,
-        action: action,
-        start: 0,
-        count: 0,
-        sum: 0,
-    }
-}
-
 // Makes the action that a change of a cluster is. Of a remove only the part number is kept.
 fn action_of(change: Change, cluster: Cluster) -> Action
     ensures { (plain : PlainCluster) → cluster ≡ struct_cluster plain → result ≡ struct_action (action_of change plain) }
 {
     match change {
-        Change::Install => Action {
-            change: Change::Install,
-            cluster: cluster,
-        },
-        Change::Update => Action {
-            change: Change::Update,
-            cluster: cluster,
-        },
+        Change::Install | Change::Update => Action { change, cluster },
         Change::Remove => Action {
-            change: Change::Remove,
+            change,
             cluster: bare_cluster(cluster.part),
         },
     }
 }
 
-// Gives the package whose text ends with the empty line at a cursor. Precondition: the cursor is before the end of the area;
+// Returns the package whose text ends with the empty line at a cursor. Precondition: the cursor is before the end of the area;
 // `package_behind` has found the LF there.
-fn package_with(s: &[u8], heading: Heading, cluster: Cluster, line: Cursor) -> PackageRead
+fn package_with(
+    s: &[u8],
+    heading: Heading,
+    cluster: Cluster,
+    line: Cursor,
+) -> Result<PackageRead, PackageError>
     requires { line.at < length s.now }
     ensures { PackageEnding s.now heading cluster line.at result }
 {
     let fields = heading.fields;
-    let change = fields.change;
     let start = line.at + 1;
     let count = fields.count as usize;
     if s.len() - start == count {
-        return PackageRead {
-            answer: PackageAnswer::Consistent,
-            action: action_of(change, cluster),
-            start: start,
-            count: count,
+        Ok(PackageRead {
+            action: action_of(fields.change, cluster),
+            start,
+            count,
             sum: fields.sum,
-        };
+        })
+    } else {
+        Err(PackageError::Inconsistent)
     }
-    no_package(PackageAnswer::Inconsistent)
 }
 
 // Reads a package from the cursor behind its first value line on.
-fn package_behind(s: &[u8], columns: PackageColumns, from: Cursor, heading: Heading) -> PackageRead
-    ensures { result ≡ package_read (package_behind columns s.now from.at (plain_heading heading)) }
+fn package_behind(
+    s: &[u8],
+    columns: PackageColumns,
+    from: Cursor,
+    heading: Heading,
+) -> Result<PackageRead, PackageError>
+    ensures { result ≡ package_answer (package_behind columns s.now from.at (plain_heading heading)) }
 {
     let fields = heading.fields;
-    let change = fields.change;
-    let version = heading.version;
-    let first_need = heading.need;
-    let mut lines = further_most(change);
-    let mut cluster = cluster_with(fields.part, version, first_need);
+    let mut lines = further_most(fields.change);
+    let mut cluster = cluster_with(fields.part, heading.version, heading.need);
     let mut line = from;
     while !is_empty_line(s, line) {
         if lines == 0 {
-            return no_package(PackageAnswer::IllFormed);
+            return Err(PackageError::IllFormed);
         }
-        let Line::Ends(next) = line_at(s, line, 6) else {
-            return no_package(PackageAnswer::IllFormed);
-        };
-        let NeedLine::Value(need) = only_need(s, line, columns) else {
-            return no_package(PackageAnswer::IllFormed);
-        };
+        let next = line_at(s, line, 6).ok_or(PackageError::IllFormed)?;
+        let need = only_need(s, line, columns).ok_or(PackageError::IllFormed)?;
         cluster = with_need(cluster, need);
         line = next;
         lines -= 1;
@@ -133,36 +110,27 @@ fn package_behind(s: &[u8], columns: PackageColumns, from: Cursor, heading: Head
 }
 
 // Reads a package from the cursor behind its names line on.
-fn package_from(s: &[u8], columns: PackageColumns, first: Cursor) -> PackageRead
-    ensures { result ≡ package_read (package_from columns s.now first.at) }
+#[tactic(auto, unfolding(crate::specs::Answer::package_answer))]
+fn package_from(
+    s: &[u8],
+    columns: PackageColumns,
+    first: Cursor,
+) -> Result<PackageRead, PackageError>
+    ensures { result ≡ package_answer (package_from columns s.now first.at) }
 {
-    let Line::Ends(next) = line_at(s, first, 6) else {
-        return no_package(PackageAnswer::IllFormed);
-    };
-    let HeadingRead::Value(heading) = heading_at(s, first, columns) else {
-        return no_package(PackageAnswer::IllFormed);
-    };
+    let next = line_at(s, first, 6).ok_or(PackageError::IllFormed)?;
+    let heading = heading_at(s, first, columns).ok_or(PackageError::IllFormed)?;
     package_behind(s, columns, next, heading)
 }
 
-// Reads the package in an area, from its names line on.
-fn package_at_start(s: &[u8]) -> PackageRead
-    ensures { result ≡ package_read (read_package s.now) }
+// Reads the package in an area, from its names line on: its action and where its payload lies, or why there is none.
+#[tactic(auto, using(crate::proofs::Payload::answered), unfolding(crate::specs::Package::read_package, crate::specs::Answer::package_answer, base::specs::Refusals::first_refusal))]
+pub fn read_package(s: &[u8]) -> Result<PackageRead, PackageError>
+    ensures meaning { answer_number result ≡ refusal_number (read_package s.now) }
+    ensures exact { result ≡ package_answer (read_package s.now) }
 {
     let names = Cursor { at: 0 };
-    let Line::Ends(first) = line_at(s, names, 6) else {
-        return no_package(PackageAnswer::IllFormed);
-    };
-    let PackageColumnsRead::Named(columns) = package_columns(s, names, 7) else {
-        return no_package(PackageAnswer::IllFormed);
-    };
+    let first = line_at(s, names, 6).ok_or(PackageError::IllFormed)?;
+    let columns = package_columns(s, names, 7).ok_or(PackageError::IllFormed)?;
     package_from(s, columns, first)
-}
-
-// Reads the package in an area: gives refusal 9, refusal 10, or its action and where its payload lies.
-pub fn read_package(s: &[u8]) -> PackageRead
-    ensures meaning { answer_number result.answer ≡ refusal_number (read_package s.now) }
-    ensures exact { result ≡ package_read (read_package s.now) }
-{
-    package_at_start(s)
 }

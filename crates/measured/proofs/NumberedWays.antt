@@ -10,17 +10,18 @@ use Rattle.model.specs.State.{Store}
 use Rattle.model.specs.Load as model
 use Rattle.state.specs.declared.state.State.{State}
 use Rattle.state.specs.declared.answer.Answer.TheVariants.{Done}
+use Rattle.state.specs.declared.answer.Answer.{Answer}
 use Rattle.state.specs.declared.answer.Answered.{Answered}
 use Rattle.state.specs.View.{view_state}
-use Rattle.state.specs.Outcome.{outcome, view_outcome}
+use Rattle.state.specs.Outcome.{outcome, view_outcome, answered}
 use Rattle.load.specs.Exact.{load}
 use Rattle.load.proofs.Told.{IsOther}
 use Rattle.call_rows.specs.Rows.{decoded, is_given}
 use Rattle.call_list.specs.declared.ListReply.{ListReply}
 use Rattle.call_list.specs.declared.ListReply.TheVariants.{Made, BadLoad, Malformed, ShortAnswers}
-use Rattle.call_list.specs.WholeList.{replied, list_outcome, RowsMade}
+use Rattle.call_list.specs.WholeList.{list_outcome, RowsMade}
 use Rattle.call_list.specs.Loaded.{load_and_run_outcome}
-use Rattle.call_list.proofs.ListLaws.{none_so_far, all_made}
+use Rattle.call_list.proofs.ListLaws.{made-begins, made-ends}
 use Rattle.call_list.proofs.LoadedWays as ways
 use Rattle.c_interface.specs.Results.{result_number}
 use Rattle.c_interface.specs.LoadAndRun.{nothing_loaded, numbered_outcome, numbered, load_and_run_numbered}
@@ -31,7 +32,7 @@ unfolding decoded
 no_rows = refl
 
 pub none_made : (s : State) (store : Store) → RowsMade s store [] (decoded [] []) s store []
-none_made s store = all_made [] [] s store [] s store [] 0 0 (none_so_far [] [] s store [] no_rows) (omega arith)
+none_made s store = made-ends [] [] [] refl no_rows s store [] s store [] 0 (made-begins [] [] [] refl no_rows s store []) (omega arith)
 
 module _ (list : List ℕ) (first : ℕ) (store : Store) (words rows bytes : List ℕ) (number : ℕ) where
   -- what the contract says of the store and the answers that are given back
@@ -40,7 +41,7 @@ module _ (list : List ℕ) (first : ℕ) (store : Store) (words rows bytes : Lis
 
   -- an outcome that `load_and_run` would give, by its number
   by-outcome : (s s' : State) (reply : ListReply) (store' : Store) (words' : List ℕ) → s ≡ nothing_loaded → number ≡ result_number reply
-      → list_outcome (replied reply s') store' words' ≡ load_and_run_outcome s list first store words (decoded rows bytes)
+      → list_outcome (answered reply s') store' words' ≡ load_and_run_outcome s list first store words (decoded rows bytes)
       → Numbered store' words'
   by-outcome s s' reply store' words' nothing is e =
       ap (λ (n : ℕ). numbered_outcome n store' words') is
@@ -49,25 +50,25 @@ module _ (list : List ℕ) (first : ℕ) (store : Store) (words rows bytes : Lis
 
   pub ends-malformed : is_given (decoded rows bytes) ≡ false → number ≡ result_number Malformed → Numbered store words
   ends-malformed g is =
-      let r = replied Malformed nothing_loaded in
+      let r = answered Malformed nothing_loaded in
       by-outcome nothing_loaded nothing_loaded Malformed store words refl is (ways.ends-malformed nothing_loaded list first store words rows bytes r g refl).0
 
   pub ends-short : is_given (decoded rows bytes) ≡ true → length words < length rows / 3 → number ≡ result_number ShortAnswers
       → Numbered store words
   ends-short g h is =
-      let r = replied ShortAnswers nothing_loaded in
+      let r = answered ShortAnswers nothing_loaded in
       by-outcome nothing_loaded nothing_loaded ShortAnswers store words refl is (ways.ends-short nothing_loaded list first store words rows bytes r g h refl).0
 
-  module _ (s : State) (nothing : s ≡ nothing_loaded) (loaded : Answered) (store' : Store) (exact : outcome loaded store' ≡ load s list first store)
+  module _ (s : State) (nothing : s ≡ nothing_loaded) (loaded : Answered Answer) (store' : Store) (exact : outcome loaded store' ≡ load s list first store)
       (g : is_given (decoded rows bytes) ≡ true) (h : length rows / 3 ≤ length words) where
     pub ends-bad : IsOther loaded.answer → number ≡ result_number BadLoad → Numbered store' words
     ends-bad other is =
-        let r = replied BadLoad loaded.state in
+        let r = answered BadLoad loaded.state in
         by-outcome s loaded.state BadLoad store' words nothing is (ways.ends-bad s list first store words rows bytes r loaded store' exact g h other refl).0
 
     pub ends-made : view_outcome (outcome loaded store') ≡ model.load (view_state s) list first store → loaded.answer ≡ Done
         → (s' : State) (store'' : Store) (words' : List ℕ) → RowsMade loaded.state store' words (decoded rows bytes) s' store'' words'
         → number ≡ result_number Made → Numbered store'' words'
     ends-made meaning d s' store'' words' m is =
-        let r = replied Made s' in
+        let r = answered Made s' in
         by-outcome s s' Made store'' words' nothing is (ways.ends-made s list first store words rows bytes r loaded store' exact g h meaning d s' store'' words' refl m).0

@@ -7,26 +7,24 @@ ghost use Rattle.measured.specs.Twelve.{OfTheTwelve, TwelveMade, TwelvesMade};
 use c_interface::{nothing_loaded, result_number};
 use call_list::{ListReply, put_answer};
 use call_rows::answer_words::answer_words;
-use call_rows::row::{MixedRequest, Row, RowRequest, row_at, row_block, row_request};
+use call_rows::row::{MixedRequest, Row, row_block, row_request};
 use call_rows::row_list::rows_well_formed;
 use load::load;
 use manager::call;
-use refusal::BAD_STATE;
-use state::answer::{Answer, Answered, answer_with, refused};
+use refusal::Refusal;
+use state::answer::{Answer, Answered, answer_with, refuse};
 use state::state::State;
 
 // Makes the call of a row. Of a malformed row nothing is said, because `measured_calls` checks all rows before the first call; and nothing
 // of an old call, so that the State is in one kind of answer throughout.
-fn make_row(s: State, store: &mut [u8], row: Row, bytes: &[u8]) -> Answered
+fn make_row(s: State, store: &mut [u8], row: Row, bytes: &[u8]) -> Answered<Answer>
     ensures { TwelveMade s store.old row bytes.now result store.new }
 {
-    let RowRequest::WellFormed(request) = row_request(row, bytes.len()) else {
-        return refused(s, BAD_STATE);
-    };
-    let MixedRequest::Twelve(twelve) = request else {
-        return refused(s, BAD_STATE);
-    };
-    call(s, store, twelve, row_block(row, bytes))
+    match row_request(row, bytes.len()) {
+        Some(MixedRequest::Twelve(twelve)) => call(s, store, twelve, row_block(row, bytes)),
+        Some(MixedRequest::Old(_)) => refuse(s, Refusal::BadState),
+        None => refuse(s, Refusal::BadState),
+    }
 }
 
 // Makes every call of the rows, each with the state and store that the one before left. Precondition: the rows are well-formed and the
@@ -37,15 +35,11 @@ fn make_each(s: State, store: &mut [u8], words: &[u32], bytes: &[u8], answers: &
     ensures { TwelvesMade s store.old answers.old (decoded words.now bytes.now)
         result store.new answers.new }
 {
+    let (rows, _) = words.as_chunks::<6>();
     let mut made = answer_with(Answer::Done, s);
-    let mut i = 0;
-    let mut at = 0;
-    while i < words.len() {
-        made = make_row(made.state, store, row_at(words, i), bytes);
-        let answer = made.answer;
-        put_answer(answers, at, answer_words(answer));
-        i += 6;
-        at += 2;
+    for (i, row) in rows.iter().enumerate() {
+        made = make_row(made.state, store, Row::from(*row), bytes);
+        put_answer(answers, 2 * i, answer_words(made.answer));
     }
     made.state
 }
@@ -73,8 +67,7 @@ pub extern "C" fn measured_calls(
         return result_number(ListReply::ShortAnswers);
     }
     let loaded = load(nothing_loaded(), list, first, store);
-    let answer = loaded.answer;
-    let Answer::Done = answer else {
+    let Answer::Done = loaded.answer else {
         return result_number(ListReply::BadLoad);
     };
     make_each(loaded.state, store, words, bytes, answers);
@@ -89,8 +82,7 @@ pub extern "C" fn measured_load(list: &[u8], first: u32, store: &mut [u8]) -> u3
         ≡ load_and_run_numbered list.now first store.old [] (decoded [] []) }
 {
     let loaded = load(nothing_loaded(), list, first, store);
-    let answer = loaded.answer;
-    let Answer::Done = answer else {
+    let Answer::Done = loaded.answer else {
         return result_number(ListReply::BadLoad);
     };
     result_number(ListReply::Made)

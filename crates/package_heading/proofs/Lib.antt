@@ -1,4 +1,2 @@
-pub mod ThenLaws
-pub mod HeadingLaws
 pub mod Within
 pub mod Examples

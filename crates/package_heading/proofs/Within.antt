@@ -2,15 +2,15 @@
 use mathlib.Core.Path.{◌≡◌, refl}
 use mathlib.Core.Bool.{true, ◌&&◌}
 use mathlib.Core.List.{List}
-use mathlib.Core.Option.{Option, none, some}
 use Prim.Native.Nat.{ℕ, ◌≤◌}
 use native.Mathlib.Omega.{arith}
 use lib.Dec.{eqb}
 use lib.ListN.{length}
+use Rattle.std.specs.Prelude.{Option, Some, None}
 use Rattle.base.proofs.Tests.{cond_cases}
 use Rattle.text.specs.Number.{whole_number}
 use Rattle.text.specs.Version.{whole_version}
-use Rattle.text.proofs.ThenLaws.{then-cases, then-cases-version}
+use Rattle.text.proofs.ThenLaws.{then-cases}
 use Rattle.text.proofs.Meaning.{whole-number-most, whole-version-limits}
 use Rattle.rows.specs.declared.columns.PackageColumns.{PackageColumns}
 use Rattle.rows.specs.Field.{cell}
@@ -20,12 +20,10 @@ use Rattle.clusters.specs.Cluster.{Cluster, part_within, cluster_within, cluster
 use Rattle.actions.specs.Action.{action_within}
 use Rattle.actions.specs.View.{action_of}
 use Rattle.cluster_list.specs.Cells.{part_field, need_fields, needs_filled}
-use Rattle.cluster_list.proofs.ThenLaws.{then-cases-need}
 use Rattle.cluster_list.proofs.FirstNeed.{few-filled}
 use Rattle.cluster_list.proofs.CellsWithin.{part-read-within, needs-read-within}
 use Rattle.cluster_list.proofs.Within.{cluster-is-within}
 use Rattle.package_heading.specs.Heading.{Heading, payload_most, sum_most, change_of, only_part, remove_heading, cluster_heading, heading_of, first_line}
-use Rattle.package_heading.proofs.ThenLaws.{then-cases-change}
 
 -- the action within its limits, with at most the one need of the line; payload count and sum
 pub record HeadingFacts (h : Heading) : Type 0 where
@@ -35,8 +33,8 @@ pub record HeadingFacts (h : Heading) : Type 0 where
   pub sum : h.sum ≤ sum_most
 
 abbrev pub HeadingWithin : Option Heading → Type 0
-HeadingWithin none = Unit {0}
-HeadingWithin (some h) = HeadingFacts h
+HeadingWithin None = Unit {0}
+HeadingWithin (Some h) = HeadingFacts h
 
 -- a change that has a cluster
 pub data HasCluster : Change → Type 0 where
@@ -58,9 +56,9 @@ module _ (columns : PackageColumns) (l : List ℕ) (part count sum : ℕ) (fine 
   cluster-within : (change : Change) → HasCluster change → HeadingWithin (cluster_heading change columns l part count sum)
   unfolding cluster_heading
   cluster-within change has =
-      then-cases-version HeadingWithin none (whole_version (cell columns.cluster_columns.version l)) _ tt λ version next e.
+      then-cases HeadingWithin None (whole_version (cell columns.cluster_columns.version l)) _ tt λ version next e.
       let version-fine = whole-version-limits (cell columns.cluster_columns.version l) version next _ refl e in
-      then-cases-need HeadingWithin none (need_fields columns.cluster_columns l) _ tt λ need after f.
+      then-cases HeadingWithin None (need_fields columns.cluster_columns l) _ tt λ need after f.
       record {
         within =
             action-fine has _
@@ -78,10 +76,10 @@ module _ (columns : PackageColumns) (l : List ℕ) (part count sum : ℕ) (fine 
 pub first-line-within : (columns : PackageColumns) (l : List ℕ) → HeadingWithin (first_line columns l)
 unfolding first_line
 first-line-within columns l =
-    then-cases-change HeadingWithin none (change_of (cell columns.action l)) _ tt λ change _ a.
-    then-cases HeadingWithin none (part_field (cell columns.cluster_columns.cluster l)) _ tt λ part behind e.
-    then-cases HeadingWithin none (whole_number payload_most (cell columns.payload l)) _ tt λ count behind-count f.
-    then-cases HeadingWithin none (whole_number sum_most (cell columns.sum l)) _ tt λ sum behind_sum g.
+    then-cases HeadingWithin None (change_of (cell columns.action l)) _ tt λ change _ a.
+    then-cases HeadingWithin None (part_field (cell columns.cluster_columns.cluster l)) _ tt λ part behind e.
+    then-cases HeadingWithin None (whole_number payload_most (cell columns.payload l)) _ tt λ count behind-count f.
+    then-cases HeadingWithin None (whole_number sum_most (cell columns.sum l)) _ tt λ sum behind_sum g.
     heading-within columns l part count sum
     (part-read-within _ part behind e)
     (whole-number-most payload_most (cell columns.payload l) count behind-count _ refl f)

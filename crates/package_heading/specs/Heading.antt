@@ -1,12 +1,11 @@
 -- "Packages in the store": the first value line of a package.
-use Rattle.std.specs.Prelude.{ℕ, Bool, cond, ◌&&◌, List, [], eqb, length}
-use Rattle.std.proofs.Math.Option.{Option, none, some}
+use Rattle.std.specs.Prelude.{ℕ, Bool, cond, ◌&&◌, List, [], eqb, length, Option, Some, None}
 use Rattle.base.specs.Quoted.{bytes}
 use Rattle.text.specs.declared.cursor.Cursor.{Cursor}
 use Rattle.text.specs.Number.{cursor, whole_number}
 use Rattle.text.specs.Version.{whole_version}
 use Rattle.text.specs.Word.{same_bytes}
-use Rattle.text.specs.Then.{and_then, and_then_version}
+use Rattle.text.specs.Then.{and_then_read}
 use Rattle.rows.specs.declared.columns.ClusterColumns.{ClusterColumns}
 use Rattle.rows.specs.declared.columns.PackageColumns.{PackageColumns}
 use Rattle.rows.specs.Field.{cell, is_empty}
@@ -14,21 +13,14 @@ use Rattle.actions.specs.declared.action.Change.{Change}
 use Rattle.actions.specs.declared.action.Change.TheVariants.{Install, Update, Remove}
 use Rattle.clusters.specs.Cluster.{Cluster, cluster}
 use Rattle.clusters.specs.View.{no_version}
-use Rattle.cluster_list.specs.Cells.{part_field, need_fields, and_then_need, needs_filled}
-use Rattle.package_heading.specs.declared.change.ChangeRead.{ChangeRead}
-use Rattle.package_heading.specs.declared.change.ChangeRead.TheVariants.{Value, IllFormed}
+use Rattle.cluster_list.specs.Cells.{part_field, need_fields, needs_filled}
 
 -- "Action is `install`, `update` or `remove`." The cursor is the one behind the word
-unfoldable pub change_of : List ℕ → ChangeRead
+unfoldable pub change_of : List ℕ → Option (Change × Cursor)
 change_of w =
-    cond (same_bytes w (bytes "install")) (Value Install (cursor (length w)))
-    (cond (same_bytes w (bytes "update")) (Value Update (cursor (length w)))
-    (cond (same_bytes w (bytes "remove")) (Value Remove (cursor (length w))) IllFormed))
-
--- goes on with the change that a word names and the cursor behind it, or is `ill`
-abbrev pub and_then_change : {R : Type 0} → R → ChangeRead → (Change → Cursor → R) → R
-and_then_change ill (Value change next) f = f change next
-and_then_change ill IllFormed f = ill
+    cond (same_bytes w (bytes "install")) (Some (Install, cursor (length w)))
+    (cond (same_bytes w (bytes "update")) (Some (Update, cursor (length w)))
+    (cond (same_bytes w (bytes "remove")) (Some (Remove, cursor (length w))) None))
 
 -- what the first value line says. Of a remove the version is cleared and there are no needs
 pub record Heading : Type 0 where
@@ -48,15 +40,15 @@ only_part columns l = is_empty (cell columns.version l) && (is_empty (cell colum
 unfoldable pub remove_heading : PackageColumns → List ℕ → ℕ → ℕ → ℕ → Option Heading
 remove_heading columns l part count sum =
     cond (only_part columns.cluster_columns l && eqb count 0)
-    (some (heading Remove (cluster part no_version []) count sum))
-    none
+    (Some (heading Remove (cluster part no_version []) count sum))
+    None
 
 -- install and update have a version; "On the first these two are both filled or both empty."
 unfoldable pub cluster_heading : Change → PackageColumns → List ℕ → ℕ → ℕ → ℕ → Option Heading
 cluster_heading change columns l part count sum =
-    and_then_version none (whole_version (cell columns.cluster_columns.version l)) λ version _.
-    and_then_need none (need_fields columns.cluster_columns l) λ need _.
-    some (heading change (cluster part version (needs_filled need)) count sum)
+    and_then_read None (whole_version (cell columns.cluster_columns.version l)) λ version _.
+    and_then_read None (need_fields columns.cluster_columns l) λ need _.
+    Some (heading change (cluster part version (needs_filled need)) count sum)
 
 -- what the action makes of the first value line
 abbrev pub heading_of : Change → PackageColumns → List ℕ → ℕ → ℕ → ℕ → Option Heading
@@ -74,13 +66,13 @@ sum_most = 65535
 -- payload and sum of the first value line, and what its action makes of it
 abbrev pub payload_heading : Change → PackageColumns → List ℕ → ℕ → Option Heading
 payload_heading change columns l part =
-    and_then none (whole_number payload_most (cell columns.payload l)) λ count _.
-    and_then none (whole_number sum_most (cell columns.sum l)) λ sum _.
+    and_then_read None (whole_number payload_most (cell columns.payload l)) λ count _.
+    and_then_read None (whole_number sum_most (cell columns.sum l)) λ sum _.
     heading_of change columns l part count sum
 
 -- the first value line, which a text begins with
 unfoldable pub first_line : PackageColumns → List ℕ → Option Heading
 first_line columns l =
-    and_then_change none (change_of (cell columns.action l)) λ change _.
-    and_then none (part_field (cell columns.cluster_columns.cluster l)) λ part _.
+    and_then_read None (change_of (cell columns.action l)) λ change _.
+    and_then_read None (part_field (cell columns.cluster_columns.cluster l)) λ part _.
     payload_heading change columns l part

@@ -6,26 +6,19 @@ use actions::action::Change;
 use text::cursor::Cursor;
 use text::word::is_word;
 
-// What reading an action word finds: the change that it names and the cursor behind it.
-#[derive(Clone, Copy)]
-pub enum ChangeRead {
-    Value(Change, Cursor),
-    IllFormed,
-}
-
-// Reads the change that a word names.
-pub fn change_of(word: &[u8]) -> ChangeRead
+// Reads the change that a word names. The cursor is the one behind the word.
+#[tactic(auto, unfolding(crate::specs::Heading::change_of))]
+pub fn change_of(word: &[u8]) -> Option<(Change, Cursor)>
     ensures { result ≡ change_of word.now }
 {
     let next = Cursor { at: word.len() };
     if is_word(word, b"install") {
-        return ChangeRead::Value(Change::Install, next);
+        Some((Change::Install, next))
+    } else if is_word(word, b"update") {
+        Some((Change::Update, next))
+    } else if is_word(word, b"remove") {
+        Some((Change::Remove, next))
+    } else {
+        None
     }
-    if is_word(word, b"update") {
-        return ChangeRead::Value(Change::Update, next);
-    }
-    if is_word(word, b"remove") {
-        return ChangeRead::Value(Change::Remove, next);
-    }
-    ChangeRead::IllFormed
 }

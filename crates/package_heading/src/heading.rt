@@ -4,15 +4,16 @@ ghost use Rattle.actions.specs.declared.action.Change.TheVariants.{Remove};
 ghost use Rattle.package_heading.specs.Heading.{only_part, remove_heading, cluster_heading, heading_of, payload_heading, first_line};
 ghost use Rattle.package_heading.specs.Found.{heading_found, of_fields};
 
-use crate::change::{ChangeRead, change_of};
+use crate::change::change_of;
 use actions::action::Change;
 use checksum::SUM_MOST;
-use cluster_list::cells::{NeedRead, OptionalNeed, need_fields, part_field};
+use cluster_list::cells::{need_fields, part_field};
+use clusters::cluster::Need;
 use rows::columns::{ClusterColumns, PackageColumns};
 use rows::reader::{cell_at, cell_is_empty};
 use text::cursor::Cursor;
-use text::number::{Number, whole_number};
-use text::version::{NO_VERSION, Version, VersionRead, whole_version};
+use text::number::whole_number;
+use text::version::{NO_VERSION, Version, whole_version};
 
 // The largest count of payload bytes: the one place in the code that has this limit.
 const PAYLOAD_MOST: u32 = 16777216;
@@ -31,75 +32,66 @@ pub struct Fields {
 pub struct Heading {
     pub fields: Fields,
     pub version: Version,
-    pub need: OptionalNeed,
+    pub need: Option<Need>,
 }
 
-// What reading that line finds. Its caller has the cursor behind the line from `line_at`.
-#[derive(Clone, Copy)]
-pub enum HeadingRead {
-    Value(Heading),
-    IllFormed,
-}
-
-// Says whether version, needs and least of the line at a cursor are empty.
+// Returns true if version, needs and least of the line at a cursor are empty.
 fn only_part(s: &[u8], line: Cursor, columns: ClusterColumns) -> bool
     ensures { result ≡ only_part columns (drop line.at s.now) }
 {
-    if !cell_is_empty(s, line, columns.version) {
-        return false;
-    }
-    if !cell_is_empty(s, line, columns.needs) {
-        return false;
-    }
-    cell_is_empty(s, line, columns.least)
+    cell_is_empty(s, line, columns.version)
+        && cell_is_empty(s, line, columns.needs)
+        && cell_is_empty(s, line, columns.least)
 }
 
 // Reads the first value line of a remove. Precondition: the change is Remove; `heading_of` has taken it apart.
-fn remove_heading(s: &[u8], line: Cursor, columns: PackageColumns, fields: Fields) -> HeadingRead
+#[tactic(auto, unfolding(crate::specs::Heading::remove_heading))]
+fn remove_heading(
+    s: &[u8],
+    line: Cursor,
+    columns: PackageColumns,
+    fields: Fields,
+) -> Option<Heading>
     requires { fields.change ≡ Remove }
     ensures { heading_found result ≡ of_fields fields (remove_heading columns (drop line.at s.now)) }
 {
-    let cluster_columns = columns.cluster_columns;
-    if !only_part(s, line, cluster_columns) {
-        return HeadingRead::IllFormed;
-    }
-    if fields.count == 0 {
-        return HeadingRead::Value(Heading {
-            fields: fields,
+    if only_part(s, line, columns.cluster_columns) && fields.count == 0 {
+        Some(Heading {
+            fields,
             version: NO_VERSION,
-            need: OptionalNeed::Empty,
-        });
+            need: None,
+        })
+    } else {
+        None
     }
-    HeadingRead::IllFormed
 }
 
 // Reads the first value line of an install or update.
-fn cluster_heading(s: &[u8], line: Cursor, columns: PackageColumns, fields: Fields) -> HeadingRead
+#[tactic(auto, unfolding(crate::specs::Heading::cluster_heading))]
+fn cluster_heading(
+    s: &[u8],
+    line: Cursor,
+    columns: PackageColumns,
+    fields: Fields,
+) -> Option<Heading>
     ensures { heading_found result ≡ of_fields fields (cluster_heading fields.change columns (drop line.at s.now)) }
 {
-    let cluster_columns = columns.cluster_columns;
-    let field = cell_at(s, line, cluster_columns.version);
-    let VersionRead::Value(version, _) = whole_version(field) else {
-        return HeadingRead::IllFormed;
-    };
-    let NeedRead::Value(need, _) = need_fields(s, line, cluster_columns) else {
-        return HeadingRead::IllFormed;
-    };
-    HeadingRead::Value(Heading {
-        fields: fields,
-        version: version,
-        need: need,
+    let shared = columns.cluster_columns;
+    let (version, _) = whole_version(cell_at(s, line, shared.version))?;
+    let (need, _) = need_fields(s, line, shared)?;
+    Some(Heading {
+        fields,
+        version,
+        need,
     })
 }
 
 // Reads the first value line by its action.
-fn heading_of(s: &[u8], line: Cursor, columns: PackageColumns, fields: Fields) -> HeadingRead
+fn heading_of(s: &[u8], line: Cursor, columns: PackageColumns, fields: Fields) -> Option<Heading>
     ensures { heading_found result ≡ of_fields fields (heading_of fields.change columns (drop line.at s.now)) }
 {
-    let change = fields.change;
-    match change {
-        Change::Install => cluster_heading(s, line, columns, fields),
-        Change::Update => cluster_heading(s, line, columns, fields),
+    match fields.change {
+        Change::Install | Change::Update => cluster_heading(s, line, columns, fields),
         Change::Remove => remove_heading(s, line, columns, fields),
     }
 }
@@ -111,36 +103,26 @@ fn payload_heading(
     columns: PackageColumns,
     change: Change,
     part: u32,
-) -> HeadingRead
+) -> Option<Heading>
     ensures { heading_found result ≡ payload_heading change columns (drop line.at s.now) part }
 {
-    let payload = cell_at(s, line, columns.payload);
-    let Number::Value(count, _) = whole_number(payload, PAYLOAD_MOST) else {
-        return HeadingRead::IllFormed;
-    };
-    let sum_field = cell_at(s, line, columns.sum);
-    let Number::Value(sum, _) = whole_number(sum_field, SUM_MOST) else {
-        return HeadingRead::IllFormed;
-    };
+    let (count, _) = whole_number(cell_at(s, line, columns.payload), PAYLOAD_MOST)?;
+    let (sum, _) = whole_number(cell_at(s, line, columns.sum), SUM_MOST)?;
     let fields = Fields {
-        change: change,
-        part: part,
-        count: count,
-        sum: sum,
+        change,
+        part,
+        count,
+        sum,
     };
     heading_of(s, line, columns, fields)
 }
 
-// Reads the first value line, at a cursor.
-pub fn heading_at(s: &[u8], line: Cursor, columns: PackageColumns) -> HeadingRead
+// Reads the first value line, at a cursor. Its caller has the cursor behind the line from `line_at`.
+#[tactic(auto, unfolding(crate::specs::Heading::first_line))]
+pub fn heading_at(s: &[u8], line: Cursor, columns: PackageColumns) -> Option<Heading>
     ensures { heading_found result ≡ first_line columns (drop line.at s.now) }
 {
-    let ChangeRead::Value(change, _) = change_of(cell_at(s, line, columns.action)) else {
-        return HeadingRead::IllFormed;
-    };
-    let cluster = cell_at(s, line, columns.cluster_columns.cluster);
-    let Number::Value(part, _) = part_field(cluster) else {
-        return HeadingRead::IllFormed;
-    };
+    let (change, _) = change_of(cell_at(s, line, columns.action))?;
+    let (part, _) = part_field(cell_at(s, line, columns.cluster_columns.cluster))?;
     payload_heading(s, line, columns, change, part)
 }

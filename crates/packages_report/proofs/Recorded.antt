@@ -1,39 +1,41 @@
--- The records of the first i packages, one more, and those of all. Assumes nothing.
-use Prim.Native.Nat.{ℕ, zero, suc, ◌+◌, ◌<◌}
-use mathlib.Core.Path.{◌≡◌, refl, ap, ◌∙◌}
-use mathlib.Core.List.{List, [], ◌∷◌, map}
+-- The records of the first packages in the first places of a list: one more, and all. Assumes nothing.
+use Prim.Native.Nat.{ℕ, zero, suc, ◌+◌, ◌≤◌, ◌<◌}
+use mathlib.Core.Path.{◌≡◌, refl, sym, ap, ◌∙◌}
+use mathlib.Core.List.{List, [], ◌∷◌, ◌++◌}
 use native.Mathlib.Numerals.{add-one}
 use native.Mathlib.Omega.{arith}
-use lib.ListN.{length, take, get_or, set, replicate}
+use lib.ListN.{length, take, drop, get_or, set, length-map, length-take, get_or-map}
+use lib.Seq.{get_or-take, take-length}
 use Rattle.model.specs.Sound.{packages_most}
-use Rattle.state.specs.declared.package.Package.{Package}
 use Rattle.state.specs.declared.transfers.Transfers.{Transfers}
 use Rattle.state.specs.View.{cleared_package}
-use Rattle.areas.specs.FirstPlaces.{put_first}
 use Rattle.packages_report.specs.declared.Record.{Record}
-use Rattle.packages_report.specs.declared.records.Records.{Records}
-use Rattle.packages_report.specs.Records.{record_of, cleared_record, records_of}
+use Rattle.packages_report.specs.Records.{record_of, cleared_record, recorded}
 
--- of the first i packages, with every place behind them cleared
-abbrev pub first_records : ℕ → List Package → List Record
-first_records i ps = put_first (map record_of (take i ps)) (replicate packages_most cleared_record)
+-- a list with the first n of the records in its first places; those behind them keep their values
+abbrev pub first_from : ℕ → List Record → List Record → List Record
+first_from n records list = take n records ++ drop n list
 
--- a store of the next element, seen through a function
-put_next : {A B : Type 0} (f : A → B) (i : ℕ) (xs : List A) (room : List B) (d : A) → i < length xs → i < length room
-    → set (put_first (map f (take i xs)) room) i (f (get_or xs i d)) ≡ put_first (map f (take (suc i) xs)) room
-put_next f i [] room d below h = absurd (omega arith)
-put_next f i (x ∷ xs) [] d below h = absurd (omega arith)
-put_next f zero (x ∷ xs) (y ∷ room) d below h = refl
-put_next {A} {B} f (suc i) (x ∷ xs) (y ∷ room) d below h =
-    ap (λ (l : List B). f x ∷ l) (put_next f i xs room d (omega arith) (omega arith))
+next : (i : ℕ) (rs l : List Record) → i < length rs → i < length l → set (first_from i rs l) i (get_or rs i cleared_record) ≡ first_from (suc i) rs l
+next i [] l a b = absurd (omega arith)
+next i (r ∷ rs) [] a b = absurd (omega arith)
+next zero (r ∷ rs) (x ∷ l) a b = refl
+next (suc i) (r ∷ rs) (x ∷ l) a b = ap (λ (z : List Record). r ∷ z) (next i rs l (omega arith) (omega arith))
 
-pub one_more : (i : ℕ) (ps : List Package) (records : List Record) (r : Record) → i < length ps → i < packages_most
-    → records ≡ first_records i ps → r ≡ record_of (get_or ps i cleared_package) → set records i r ≡ first_records (i + 1) ps
-one_more i ps records r below room e f =
-    rw (e, f, add-one) (put_next record_of i ps (replicate packages_most cleared_record) cleared_package below room)
+module _ (t : Transfers) (few : t.count ≤ packages_most) (long : length t.packages ≡ packages_most) where
+  pub recorded-length : length (recorded t) ≡ t.count
+  recorded-length = simp (length-map, length-take) (omega arith)
 
--- a loop that has passed all packages
-pub records-done : (t : Transfers) (i : ℕ) (records : List Record) → records ≡ first_records i t.packages → i ≡ t.count
-    → record { records = records; count = t.count } ≡ records_of t
-records-done t i records e end =
-    ap {B = Records} (λ (rs : List Record). record { records = rs; count = t.count }) (e ∙ ap (λ (n : ℕ). first_records n t.packages) end)
+  module _ (old : List Record) (room : t.count ≤ length old) where
+    -- the record of the package at i is stored: one more is written
+    pub one_more : (i : ℕ) (r : Record) → i < t.count → r ≡ record_of (get_or t.packages i cleared_package)
+        → set (first_from i (recorded t) old) i r ≡ first_from (i + 1) (recorded t) old
+    one_more i r h e =
+        let at : r ≡ get_or (recorded t) i cleared_record =
+        e ∙ sym (get_or-map record_of (take t.count t.packages) i cleared_package ∙ ap record_of (get_or-take t.count t.packages i cleared_package h)) in
+        rw (at, add-one) (next i (recorded t) old (omega (arith, recorded-length)) (omega arith))
+
+    pub all-written : (i : ℕ) → i ≡ t.count → first_from i (recorded t) old ≡ recorded t ++ drop (length (recorded t)) old
+    all-written i e =
+        let here : i ≡ length (recorded t) = e ∙ sym recorded-length in
+        rw (here, take-length (recorded t))

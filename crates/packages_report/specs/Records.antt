@@ -1,14 +1,11 @@
 -- The records of Packages as structs, and what they stand for: "records (id, size, received, state) in id order".
-use Rattle.std.specs.Prelude.{map, take, replicate}
+use Rattle.std.specs.Prelude.{List, map, take}
 use Rattle.model.specs.State.{package_state_number}
-use Rattle.model.specs.Sound.{packages_most}
 use Rattle.model.specs.Reading.{PackageRecord}
 use Rattle.state.specs.declared.package.Package.{Package}
 use Rattle.state.specs.declared.transfers.Transfers.{Transfers}
 use Rattle.state.specs.View.{view_package_state}
-use Rattle.areas.specs.FirstPlaces.{put_first}
 use Rattle.packages_report.specs.declared.Record.{Record}
-use Rattle.packages_report.specs.declared.records.Records.{Records}
 
 -- ---- as structs
 
@@ -19,12 +16,9 @@ record_of p = record { id = p.id; size = p.size; received = p.received; state = 
 abbrev pub cleared_record : Record
 cleared_record = record { id = 0; size = 0; received = 0; state = 0 }
 
-abbrev pub records_of : Transfers → Records
-records_of t =
-    record {
-      records = put_first (map record_of (take t.count t.packages)) (replicate packages_most cleared_record);
-      count = t.count;
-    }
+-- the records of all packages
+abbrev pub recorded : Transfers → List Record
+recorded t = map record_of (take t.count t.packages)
 
 -- ---- as the model's
 

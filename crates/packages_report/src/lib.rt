@@ -1,18 +1,21 @@
 // Packages: "Packages fills a lent list of records (id, size, received, state) in id order."
 #![tactic(auto)]
 
-mod by_value;
 mod records;
 
-ghost use Rattle.std.specs.Prelude.{◌≡◌};
+ghost use Rattle.std.specs.Prelude.{◌≡◌, ◌≤◌};
 ghost use Rattle.model.specs.Reading.{report_buffer};
-ghost use Rattle.reading_reply.specs.Reply.{reply_of};
-ghost use Rattle.packages_report.specs.Records.{cleared_record};
-ghost use Rattle.packages_report.specs.Packages.{filled_from, listed, packages_given, model_packages};
+ghost use Rattle.model.specs.Sound.{packages_most};
+ghost use Rattle.reading_reply.specs.Reply.{reply_of, view_report, report_on_sound};
+ghost use Rattle.packages_report.specs.Records.{cleared_record, recorded};
+ghost use Rattle.packages_report.specs.Packages.{listed, packages_given, model_packages};
 
-use crate::by_value::{PackagesReport, answer_of, copied, record_at, report_within};
+use crate::records::record_of;
 use reading_reply::ReadingReply;
+use refusal::BAD_STATE;
+use soundness::sound::sound;
 use state::state::State;
+use state::transfers::Transfers;
 
 #[derive(Clone, Copy)]
 pub struct Record {
@@ -34,19 +37,19 @@ pub fn cleared_record() -> Record
     }
 }
 
-// Copies the records of a report into the first places of a lent list; those behind them keep their values.
-fn fill(list: &mut [Record], report: PackagesReport) -> ReadingReply
-    ensures { (result ≡ report.answer) × (list.new ≡ filled_from report.written list.old) }
+// Writes the records of all packages into the first places of a lent list, if it has the room; those behind them keep their values.
+// Precondition: there are at most 16 packages; `packages` checks before that the state is sound.
+fn report_records(t: Transfers, list: &mut [Record]) -> ReadingReply
+    requires { t.count ≤ packages_most }
+    ensures { view_report result list.new ≡ report_on_sound (recorded t) list.old }
 {
-    let len = list.len();
-    let n = copied(report, len);
-    let mut i: usize = 0;
-    while i < n {
-        let r = record_at(report, i);
-        list[i] = r;
-        i = i + 1;
+    if list.len() < t.count {
+        return ReadingReply::ShortBuffer(t.count);
     }
-    answer_of(report)
+    for i in 0..t.count {
+        list[i] = record_of(t.packages[i]);
+    }
+    ReadingReply::Given(t.count)
 }
 
 // Packages: writes the records of all packages into the first places of a lent list, where they fit. A refusal writes nothing.
@@ -54,8 +57,8 @@ pub fn packages(s: State, store: &[u8], list: &mut [Record]) -> ReadingReply
     ensures meaning { packages_given result list.new ≡ model_packages s store.now list.old }
     ensures exact { list.new ≡ report_buffer (reply_of result) (listed s) list.old }
 {
-    let size = store.len();
-    let room = list.len();
-    let report = report_within(s, size, room);
-    fill(list, report)
+    if !sound(s, store.len()) {
+        return ReadingReply::Refused(BAD_STATE);
+    }
+    report_records(s.transfers, list)
 }

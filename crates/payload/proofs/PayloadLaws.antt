@@ -1,5 +1,4 @@
--- What the place of the payload says: its number is that of `payload_check`, its bytes are the model's payload, and it lies in the
--- store. The place that the checks after refusal 1 give is the same where the state is sound. Assumes nothing.
+-- What the place of the payload says: its bytes are the model's payload, and it lies in the store. The place that the checks after refusal 1 give is the same where the state is sound. Assumes nothing.
 use Prim.Native.Nat.{ℕ, ◌+◌, ◌≤◌}
 use mathlib.Core.Path.{◌≡◌, refl, sym, ap, subst, ◌∙◌}
 use mathlib.Core.Bool.{true, false, not}
@@ -28,20 +27,6 @@ use Rattle.payload.specs.Place.{no_place, place_unless, place, place_on_sound}
 module _ (s : State) (store : Store) (id : ℕ) where
   abbrev packages : List Package
   packages = s.transfers.packages
-
-  -- ---- the number
-
-  number-unless : (refusal : Option ℕ) → (place_unless s store id refusal).number ≡ number_or_zero refusal
-  number-unless none = refl
-  number-unless (some number) = refl
-
-  pub check-on-sound : (place_on_sound s store id).number ≡ number_or_zero (first_refusal (further_payload_refusals s store id))
-  unfolding place_on_sound
-  check-on-sound = number-unless (first_refusal (further_payload_refusals s store id))
-
-  check-is : (place s store id).number ≡ payload_check s store id
-  unfolding place
-  check-is = number-unless (first_refusal (payload_refusals s store id)) ∙ sym (check-number s store id)
 
   -- ---- the bytes
 
@@ -99,16 +84,27 @@ module _ (s : State) (store : Store) (id : ℕ) where
   unfolding place place_on_sound payload_refusals
   sound-place ok = ap (place_unless s store id) (sym (passed_over (bad_state s store) (further_payload_refusals s store id) (ap not ok)))
 
-  pub unsound-place : sound s store ≡ false → place s store id ≡ no_place 1
-  unfolding place payload_refusals
-  unsound-place bad = ap (place_unless s store id) (refused-by (bad_state s store) (further_payload_refusals s store id) (ap not bad))
+  unsound-first : sound s store ≡ false → first_refusal (payload_refusals s store id) ≡ some 1
+  unfolding payload_refusals
+  unsound-first bad = refused-by (bad_state s store) (further_payload_refusals s store id) (ap not bad)
 
-  pub unsound-check : sound s store ≡ false → 1 ≡ payload_check s store id
-  unsound-check bad = sym (sym check-is ∙ ap (λ (p : PayloadPlace). p.number) (unsound-place bad))
+  pub unsound-place : sound s store ≡ false → place s store id ≡ no_place
+  unfolding place
+  unsound-place bad = ap (place_unless s store id) (unsound-first bad)
+
+  pub unsound-check : (n : ℕ) → sound s store ≡ false → n ≡ 1 → n ≡ payload_check s store id
+  unsound-check n bad e = e ∙ sym (check-number s store id ∙ ap number_or_zero (unsound-first bad))
 
   pub sound-check : (n : ℕ) → sound s store ≡ true → n ≡ number_or_zero (first_refusal (further_payload_refusals s store id))
       → n ≡ payload_check s store id
-  sound-check n ok e = e ∙ sym check-on-sound ∙ ap (λ (p : PayloadPlace). p.number) (sound-place ok) ∙ check-is
+  unfolding payload_refusals
+  sound-check n ok e =
+      e ∙ sym (check-number s store id ∙ ap number_or_zero (passed_over (bad_state s store) (further_payload_refusals s store id) (ap not ok)))
+
+  -- refused after 1, the place is none
+  pub refused-place : (n : ℕ) → some n ≡ first_refusal (further_payload_refusals s store id) → place_on_sound s store id ≡ no_place
+  unfolding place_on_sound
+  refused-place n e = ap (place_unless s store id) (sym e)
 
 -- what Payload says of the part that it returns, where that is the part at a place which is the payload's
 pub promised : (s : State) (whole part : Bor (List ℕ)) (id : ℕ) (given : PayloadPlace) → given ≡ place s whole.now id

@@ -6,12 +6,11 @@ use mathlib.Core.List.{List}
 use mathlib.Core.Option.{Option, none, some}
 use native.Mathlib.Omega.{arith}
 use lib.ListN.{length, take, length-take}
-use Rattle.base.specs.Refusals.{first_refusal, number_or_zero}
-use Rattle.base.proofs.RefusalNumbers.{zero-none}
+use Rattle.base.specs.Refusals.{first_refusal}
 use Rattle.manifest.specs.declared.package.PackageRead.{PackageRead as PackageReadStruct}
 use Rattle.manifest.specs.Package.{PackageRead, ill_formed, inconsistent, consistent, read_package}
 use Rattle.manifest.specs.Refused.{package_refusals}
-use Rattle.manifest.specs.Answer.{refusal_number, package_read}
+use Rattle.manifest.specs.Answer.{package_read}
 use Rattle.manifest.proofs.Within.{read_package-within}
 use Rattle.model.specs.State as model
 use Rattle.model.specs.State.{Store}
@@ -20,7 +19,7 @@ use Rattle.model.specs.Step.{unknown, manifest_of}
 use Rattle.model.specs.Reading.{further_payload_refusals}
 use Rattle.model.proofs.soundness.Packages.{found-known, found-is}
 use Rattle.payload.specs.declared.place.PayloadPlace.{PayloadPlace}
-use Rattle.payload.specs.Place.{no_place, place_unless, place_on_sound}
+use Rattle.payload.specs.Place.{place_on_sound}
 
 -- ---- what its text says
 
@@ -56,45 +55,32 @@ start-inside n bytes r e =
     let part = take n bytes in
     omega (arith, told-start part r e, manifest-inside (read_package part) part refl, length-take n bytes)
 
--- ---- the place, by the way out
+-- ---- the first refusal and the place, by the way out
 
-module _ (s : model.State) (store : Store) (id : ℕ) (ps : List model.Package) (same : s.transfers.packages ≡ ps) (r : PayloadPlace) where
-  pub unknown-place : r ≡ no_place 4 → unknown id ps ≡ true → r ≡ place_on_sound s store id
-  unfolding place_on_sound further_payload_refusals first_refusal
-  unknown-place e h = rw (e, same, h)
+module _ (s : model.State) (store : Store) (id : ℕ) (ps : List model.Package) (same : s.transfers.packages ≡ ps) where
+  pub unknown-first : unknown id ps ≡ true → some 4 ≡ first_refusal (further_payload_refusals s store id)
+  unfolding further_payload_refusals first_refusal
+  unknown-first h = rw (same, h)
 
   module _ (p : model.Package) (known : find id ps ≡ some p) where
-    pub transferring-place : r ≡ no_place 5 → is_transferring p.state ≡ true → r ≡ place_on_sound s store id
-    unfolding place_on_sound further_payload_refusals first_refusal
-    transferring-place e h = rw (e, same, found-known id ps p known, found-is id ps p known, h)
+    pub transferring-first : is_transferring p.state ≡ true → some 5 ≡ first_refusal (further_payload_refusals s store id)
+    unfolding further_payload_refusals first_refusal
+    transferring-first h = rw (same, found-known id ps p known, found-is id ps p known, h)
 
     -- past 4 and 5 what was read decides
-    read-place : is_transferring p.state ≡ false
-        → place_unless s store id (first_refusal (package_refusals (read_package (area_of id ps store)))) ≡ place_on_sound s store id
-    unfolding place_on_sound further_payload_refusals first_refusal
-    read-place h = rw (same, found-known id ps p known, found-is id ps p known, h)
+    read-first : is_transferring p.state ≡ false
+        → first_refusal (package_refusals (read_package (area_of id ps store))) ≡ first_refusal (further_payload_refusals s store id)
+    unfolding further_payload_refusals first_refusal
+    read-first h = rw (same, found-known id ps p known, found-is id ps p known, h)
 
-    -- bytes are those of the area, and n the number of their refusal
-    module _ (idle : is_transferring p.state ≡ false) (bytes : List ℕ) (area : bytes ≡ area_of id ps store) (n : ℕ) (told : n ≡ refusal_number (read_package bytes)) where
-      refusal : Option ℕ
-      refusal = first_refusal (package_refusals (read_package bytes))
-
-      decided : r ≡ place_unless s store id refusal → r ≡ place_on_sound s store id
-      unfolding refusal
-      decided e = e ∙ ap (λ (l : List ℕ). place_unless s store id (first_refusal (package_refusals (read_package l)))) area ∙ read-place idle
-
-      pub refused-place : r ≡ no_place n → (n ≡ 0 → ⊥) → r ≡ place_on_sound s store id
-      unfolding refusal
-      refused-place e applies = decided (e ∙ go refusal told)
-        where
-          go : (o : Option ℕ) → n ≡ number_or_zero o → no_place n ≡ place_unless s store id o
-          go none h = absurd (applies h)
-          go (some number) h = ap no_place h
+    -- bytes are those of the area
+    module _ (idle : is_transferring p.state ≡ false) (bytes : List ℕ) (area : bytes ≡ area_of id ps store) where
+      pub decided : (x : Option ℕ) → x ≡ first_refusal (package_refusals (read_package bytes)) → x ≡ first_refusal (further_payload_refusals s store id)
+      decided x e = e ∙ ap (λ (l : List ℕ). first_refusal (package_refusals (read_package l))) area ∙ read-first idle
 
       -- o is what the reader in the code gave
       pub given-place : (at : ℕ) (o : PackageReadStruct) → at ≡ area_start id ps → o ≡ package_read (read_package bytes)
-          → r ≡ record { number = 0; start = at + o.start; count = o.count } → n ≡ 0 → r ≡ place_on_sound s store id
-      unfolding refusal
-      given-place at o f e g zero =
-          let none-applies : refusal ≡ none = zero-none (package_refusals (read_package bytes)) refl (sym zero ∙ told) in
-          decided (g ∙ rw (none-applies, same, f, told-start bytes o e, told-count bytes o e, area))
+          → none ≡ first_refusal (package_refusals (read_package bytes))
+          → ◌≡◌ {A = PayloadPlace} (record { start = at + o.start; count = o.count }) (place_on_sound s store id)
+      unfolding place_on_sound
+      given-place at o f e passed = rw (← decided none passed, same, f, told-start bytes o e, told-count bytes o e, area)

@@ -1,4 +1,4 @@
--- Where the payload's part of the store lies, with the number of the refusal, or 0.
+-- Where the payload's part of the store lies.
 use Rattle.std.specs.Prelude.{ℕ, ◌+◌}
 use Rattle.std.proofs.Math.Option.{Option, none, some}
 use Rattle.base.specs.Refusals.{first_refusal}
@@ -9,18 +9,18 @@ use Rattle.model.specs.Reading.{further_payload_refusals, payload_refusals}
 use Rattle.payload.specs.declared.place.PayloadPlace.{PayloadPlace}
 
 -- "empty when refused": the empty part at the store's start
-abbrev pub no_place : ℕ → PayloadPlace
-no_place number = record { number = number; start = 0; count = 0 }
+abbrev pub no_place : PayloadPlace
+no_place = record { start = 0; count = 0 }
 
 module _ (s : State) (store : Store) (id : ℕ) where
   -- the payload's start within its area, behind the areas before it
   abbrev pub place_in_store : PayloadPlace
   place_in_store =
       let m = manifest_of (area_read s store id) in
-      record { number = 0; start = area_start id s.transfers.packages + m.start; count = m.count }
+      record { start = area_start id s.transfers.packages + m.start; count = m.count }
 
   abbrev pub place_unless : Option ℕ → PayloadPlace
-  place_unless (some number) = no_place number
+  place_unless (some number) = no_place
   place_unless none = place_in_store
 
   unfoldable pub place : PayloadPlace

@@ -13,7 +13,7 @@ ghost use Rattle.payload.specs.Part.{PartAt};
 ghost use Rattle.payload.specs.Place.{place, place_on_sound};
 
 use crate::place::payload_place;
-use refusal::BAD_STATE;
+use refusal::Refusal;
 use soundness::sound::sound;
 use state::state::State;
 
@@ -22,11 +22,10 @@ fn payload_on_sound(s: State, store: &[u8], id: u32) -> &[u8]
     requires { sound_for (view_state s) (length store.now) ≡ true }
     ensures { PartAt store.entry (place_on_sound (view_state s) store.now id) result }
 {
-    let t = s.transfers;
-    let place = payload_place(t, store, id);
-    let start = place.start;
-    let end = start + place.count;
-    &store[start..end]
+    match payload_place(s.transfers, store, id) {
+        Ok(place) => &store[place.start..place.start + place.count],
+        Err(_) => &store[0..0],
+    }
 }
 
 // Gives the number of the first refusal after 1 that applies, or 0. Precondition: the state is sound; `payload_check` checks that before.
@@ -34,9 +33,10 @@ fn payload_check_on_sound(s: State, store: &[u8], id: u32) -> u32
     requires { sound_for (view_state s) (length store.now) ≡ true }
     ensures { result ≡ number_or_zero (first_refusal (further_payload_refusals (view_state s) store.now id)) }
 {
-    let t = s.transfers;
-    let place = payload_place(t, store, id);
-    place.number
+    match payload_place(s.transfers, store, id) {
+        Ok(_) => 0,
+        Err(refusal) => refusal.number(),
+    }
 }
 
 pub fn payload(s: State, store: &[u8], id: u32) -> &[u8]
@@ -53,7 +53,7 @@ pub fn payload_check(s: State, store: &[u8], id: u32) -> u32
     ensures { result ≡ payload_check (view_state s) store.now id }
 {
     if !sound(s, store.len()) {
-        return BAD_STATE;
+        return Refusal::BadState.number();
     }
     payload_check_on_sound(s, store, id)
 }

@@ -5,10 +5,8 @@ use mathlib.Core.Path.{◌≡◌, refl, sym, ap, ap₂, ◌∙◌}
 use mathlib.Core.List.{List}
 use mathlib.Core.Option.{Option, none, some}
 use lib.ListN.{length}
-use Rattle.base.specs.Refusals.{Refusal, first_refusal, number_or_zero}
+use Rattle.base.specs.Refusals.{first_refusal}
 use Rattle.base.proofs.Tests.{bool_cases, clash}
-use Rattle.base.proofs.RefusalNumbers.{zero-none}
-use Rattle.actions.specs.Refusals.{action_refusals}
 use Rattle.actions.specs.Action.{Action}
 use Rattle.manifest.specs.Package.{Manifest, PackageRead, consistent, read_package}
 use Rattle.manifest.specs.Answer.{package_read}
@@ -32,6 +30,7 @@ use Rattle.state.specs.declared.session.Session.{Session}
 use Rattle.state.specs.declared.work.Work.{Work}
 use Rattle.state.specs.declared.state.State.{State}
 use Rattle.state.specs.declared.answer.Answer.TheVariants.{Done}
+use Rattle.state.specs.declared.answer.Answer.{Answer}
 use Rattle.state.specs.declared.answer.Answered.{Answered}
 use Rattle.state.specs.View.{view_package_state, view_packages, view_session, is_cleared_work, view_work, view_state}
 use Rattle.state.specs.Exact.{in_state, with_package, state}
@@ -41,8 +40,7 @@ use Rattle.areas.specs.Changed.{package_at, with_changed}
 use Rattle.areas.specs.Inside.{read_at}
 use Rattle.areas.proofs.FoundPackage.{count_fits, FoundAt}
 use Rattle.areas.proofs.ChangedPackage.{view-changed}
-use Rattle.process_package.specs.declared.checks.Checked.{Checked}
-use Rattle.process_package.specs.Process.{work_of_package, checked_by, checked, processing_begun}
+use Rattle.process_package.specs.Process.{work_of_package, processing_begun}
 
 -- ---- what is kept
 
@@ -57,56 +55,30 @@ view-work-of-package bytes m e =
     (λ h. clash (rw same (read_package-within bytes m e).0) (cleared-not-within w h))
     λ h. rw h (ap (λ (a : Action). some (step.work_at_start (record { action = a; start = m.start; count = m.count; sum = m.sum }))) same)
 
--- the number that the checks give
-checked-number : (read : PackageRead) (first : Option ℕ) → (checked_by read first).number ≡ number_or_zero first
-checked-number read none = refl
-checked-number read (some number) = refl
-
 module _ (s : State) (store : Store) (id : ℕ) where
   -- what the area of the package at a place reads as
   abbrev read : ℕ → PackageRead
   read i = read_at s.transfers i (package_at s.transfers i) store
 
-  -- c is what the checks of the package gave at the place i, where it was found
-  module _ (i : ℕ) (found : FoundAt s store id i) (c : Checked)
-      (e : c ≡ checked (view_package_state (package_at s.transfers i).state) (read i) (view_session s.session)) where
-    abbrev own : List Refusal
-    own = process_refusals (view_package_state (package_at s.transfers i).state) (read i) (view_session s.session)
-
+  -- the package was found at the place i
+  module _ (i : ℕ) (found : FoundAt s store id i) where
     -- its refusals are the model's
-    process-own : first_refusal (own_refusals (view_state s) store (process id)) ≡ first_refusal own
+    pub process-own : first_refusal (own_refusals (view_state s) store (process id))
+        ≡ first_refusal (process_refusals (view_package_state (package_at s.transfers i).state) (read i) (view_session s.session))
     unfolding own_refusals
     process-own =
         let ps = view_packages s.transfers in
         passed_over _ _ (found-known id ps _ found.known)
         ∙ rw (found-is id ps _ found.known, area-at-start id ps _ store found.known, found.start)
 
-    number : c.number ≡ number_or_zero (first_refusal own)
-    number = ap (λ (x : Checked). x.number) e ∙ checked-number (read i) (first_refusal own)
-
-    pub checks-number : c.number ≡ number_or_zero (first_refusal (own_refusals (view_state s) store (process id)))
-    checks-number = number ∙ ap number_or_zero (sym process-own)
-
-    module _ (zero : c.number ≡ 0) where
-      none-applies : first_refusal own ≡ none
-      unfolding action_refusals
-      none-applies = zero-none own refl (sym zero ∙ number)
-
-      pub checks-pass : first_refusal (own_refusals (view_state s) store (process id)) ≡ none
-      checks-pass = process-own ∙ none-applies
-
-      kept : c.work ≡ work_of_package (package_read (area_read (view_state s) store id))
-      kept =
-          let ps = view_packages s.transfers in
-          ap (λ (x : Checked). x.work) e
-          ∙ rw (none-applies, area-at-start id ps _ store found.known, found.start)
-
-      -- what begins at the place begins with the package of the id
-      pub begun-at : (r : Answered)
-          → r ≡ answered Done (state phase.Processing (with_package i (in_state package_state.Processing (package_at s.transfers i)) s.transfers) s.session c.work)
-          → outcome r store ≡ processing_begun s store id
-      unfolding with_changed
-      begun-at r f = rw (f, kept, found.place)
+    -- what begins at the place, with the values that are kept of what was read there, begins with the package of the id
+    pub begun-at : (work : Work) (r : Answered Answer) → work ≡ work_of_package (package_read (read i))
+        → r ≡ answered Done (state phase.Processing (with_package i (in_state package_state.Processing (package_at s.transfers i)) s.transfers) s.session work)
+        → outcome r store ≡ processing_begun s store id
+    unfolding with_changed
+    begun-at work r kept f =
+        let ps = view_packages s.transfers in
+        rw (f, kept, found.place, area-at-start id ps _ store found.known, found.start)
 
   -- an accepted call has read a package
   read-consistent : first_refusal (refusals (view_state s) store (process id)) ≡ none
@@ -130,6 +102,6 @@ module _ (s : State) (store : Store) (id : ℕ) where
 
 -- ---- what an accepted call gives, by its parts
 
-pub give-begun : (i : ℕ) (p p' : Package) (t t' : Transfers) (session : Session) (work : Work) (r : Answered) → p' ≡ p → t' ≡ with_package i p' t
+pub give-begun : (i : ℕ) (p p' : Package) (t t' : Transfers) (session : Session) (work : Work) (r : Answered Answer) → p' ≡ p → t' ≡ with_package i p' t
     → r ≡ answered Done (state phase.Processing t' session work) → r ≡ answered Done (state phase.Processing (with_package i p t) session work)
 give-begun i p p' t t' session work r e f g = rw (g, f, e)

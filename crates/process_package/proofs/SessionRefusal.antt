@@ -4,6 +4,8 @@ use Prim.Native.Nat.{ℕ, ◌≤◌}
 use mathlib.Core.Path.{◌≡◌, sym, ap, ◌∙◌}
 use mathlib.Core.Bool.{Bool, true}
 use mathlib.Core.List.{List, []}
+use mathlib.Core.Option.{Option}
+use Rattle.base.specs.Refusals.{first_refusal}
 use lib.ListN.{length, take}
 use Rattle.base.proofs.Tests.{and_left, and_right}
 use Rattle.clusters.specs.declared.table.Table.{Table}
@@ -12,7 +14,7 @@ use Rattle.clusters.specs.View.{view_cluster, view_table}
 use Rattle.clusters.proofs.Views.{few-of-within}
 use Rattle.actions.specs.declared.action.Action.{Action as ActionStruct}
 use Rattle.actions.specs.Action.{Action, action_part, actions_within}
-use Rattle.actions.specs.Refusals.{touched, action_refusal}
+use Rattle.actions.specs.Refusals.{touched, action_refusals}
 use Rattle.actions.specs.View.{view_action}
 use Rattle.actions.proofs.StagedLaws.{part_of}
 use Rattle.actions.proofs.Limits.{apply-all-within}
@@ -48,14 +50,14 @@ module _ (session : Session) (few : session.count ≤ entries_most) (long : leng
       rw e (few-of-within (staged_table session) (rw (view-staged session few long ok) within))
 
   -- told is what the check on the table answers for any list that has the cluster as the code says
-  pub told-staged : (a : ActionStruct) (t : Table) (in_list : Bool) (n : ℕ) → t ≡ staged_table session
+  pub told-staged : (a : ActionStruct) (t : Table) (in_list : Bool) (x : Option ℕ) → t ≡ staged_table session
       → in_list ≡ touched a.cluster.part (listed_actions session.entries session.count)
-      → ((listed : List Action) → in_list ≡ touched (action_part (view_action a)) listed → n ≡ action_refusal (view_table t) listed (view_action a))
-      → n ≡ action_refusal (staged (view_session session)) (actions (view_entries session)) (view_action a)
-  told-staged a t in_list n e touches told =
+      → ((listed : List Action) → in_list ≡ touched (action_part (view_action a)) listed → x ≡ first_refusal (action_refusals (view_table t) listed (view_action a)))
+      → x ≡ first_refusal (action_refusals (staged (view_session session)) (actions (view_entries session)) (view_action a))
+  told-staged a t in_list x e touches told =
       let listed = actions (view_entries session) in
       let same : in_list ≡ touched (action_part (view_action a)) listed =
       touches
       ∙ ap (touched a.cluster.part) (sym (same-actions session.beginning session.entries session.count few))
       ∙ ap (λ (part : ℕ). touched part listed) (sym (part_of a.change (view_cluster a.cluster))) in
-      told listed same ∙ ap (λ t. action_refusal t listed (view_action a)) (ap view_table e ∙ view-staged session few long ok)
+      told listed same ∙ ap (λ t. first_refusal (action_refusals t listed (view_action a))) (ap view_table e ∙ view-staged session few long ok)

@@ -1,26 +1,23 @@
 -- Process on the code's structs.
 use Rattle.std.specs.Prelude.{ℕ, false}
-use Rattle.std.proofs.Math.Option.{Option, none, some}
-use Rattle.base.specs.Refusals.{first_refusal}
 use Rattle.checksum.specs.Sum.{start_sums}
 use Rattle.manifest.specs.declared.package.PackageRead.{PackageRead as PackageReadStruct}
-use Rattle.manifest.specs.Package.{PackageRead}
 use Rattle.manifest.specs.Answer.{package_read}
-use Rattle.model.specs.State.{PackageState, Session, Store}
+use Rattle.model.specs.State.{Store}
 use Rattle.model.specs.Calls.{process}
-use Rattle.model.specs.Step.{area_read, process_refusals}
+use Rattle.model.specs.Step.{area_read}
 use Rattle.state.specs.declared.package.Package.{Package}
 use Rattle.state.specs.declared.package.PackageState.TheVariants as package_state
 use Rattle.state.specs.declared.phase.Phase.TheVariants as phase
 use Rattle.state.specs.declared.work.Work.{Work}
 use Rattle.state.specs.declared.state.State.{State}
 use Rattle.state.specs.declared.answer.Answer.TheVariants.{Done}
+use Rattle.state.specs.declared.answer.Answer.{Answer}
 use Rattle.state.specs.declared.answer.Answered.{Answered}
 use Rattle.state.specs.View.{view_state}
-use Rattle.state.specs.Exact.{in_state, with_package, cleared_work, state}
+use Rattle.state.specs.Exact.{in_state, with_package, state}
 use Rattle.state.specs.Outcome.{Outcome, outcome, answered, called, called_on_sound}
 use Rattle.areas.specs.Changed.{with_changed}
-use Rattle.process_package.specs.declared.checks.Checked.{Checked}
 
 -- "The state keeps the action, the payload's start within its area, count and sum, with the running sums and the bytes done at 0"
 abbrev pub work_of_package : PackageReadStruct → Work
@@ -35,21 +32,8 @@ work_of_package read =
       cancel_noted = false;
     }
 
--- a refusal beside cleared values
-abbrev pub refused_check : ℕ → Checked
-refused_check number = record { number = number; work = cleared_work }
-
--- what the checks give: a refusal by its number, or 0 beside the values that are kept
-abbrev pub checked_by : PackageRead → Option ℕ → Checked
-checked_by read (some number) = refused_check number
-checked_by read none = record { number = 0; work = work_of_package (package_read read) }
-
--- by the first of the refusals after refusal 4
-abbrev pub checked : PackageState → PackageRead → Session → Checked
-checked package_state read session = checked_by read (first_refusal (process_refusals package_state read session))
-
 -- the package p at i is Processing, with the values that are kept of it
-abbrev pub processing_begun_at : State → ℕ → Package → Work → Answered
+abbrev pub processing_begun_at : State → ℕ → Package → Work → Answered Answer
 processing_begun_at s i p work =
     answered Done (state phase.Processing (with_package i (in_state package_state.Processing p) s.transfers) s.session work)
 

@@ -13,19 +13,19 @@ ghost use Rattle.process_package.specs.Process.{processing_begun_at, process_cal
 
 use crate::checks::check_package;
 use areas::lookup::named_package;
-use refusal::{BAD_STATE, SERVICE_BUSY};
+use refusal::Refusal;
 use soundness::sound::sound;
-use state::answer::{Answer, Answered, answer_with, refused};
+use state::answer::{Answer, Answered, answer_with, refuse};
 use state::package::{Package, PackageState, in_state};
 use state::permissions::PROCESS;
-use state::phase::{Phase, is_processing};
+use state::phase::Phase;
 use state::state::State;
 use state::transfers::with_package;
 use state::work::Work;
 
 // Makes the package p at i Processing and keeps values of it. Precondition: i is below 16; a place that was found in a sound state meets
 // it.
-fn begin_processing(s: State, i: usize, p: Package, work: Work) -> Answered
+fn begin_processing(s: State, i: usize, p: Package, work: Work) -> Answered<Answer>
     requires { i < packages_most }
     ensures { result ≡ processing_begun_at s i p work }
 {
@@ -42,40 +42,33 @@ fn begin_processing(s: State, i: usize, p: Package, work: Work) -> Answered
 }
 
 // Makes the call after refusal 1. Precondition: the state is sound for the store; `process` and `manager::call` check it.
-pub fn process_on_sound(s: State, store: &[u8], id: u32) -> Answered
+pub fn process_on_sound(s: State, store: &[u8], id: u32) -> Answered<Answer>
     requires { sound_for (view_state s) (length store.now) ≡ true }
     ensures { outcome result store.now ≡ process_called_on_sound s store.now id }
 {
-    let phase = s.phase;
-    if is_processing(phase) {
-        return refused(s, SERVICE_BUSY);
+    if s.phase == Phase::Processing {
+        return refuse(s, Refusal::ServiceBusy);
     }
     let t = s.transfers;
-    let named = named_package(phase, t, PROCESS, id);
-    let number = named.number;
-    if number != 0 {
-        return refused(s, number);
-    }
-    let i = named.place;
+    let i = match named_package(s.phase, t, PROCESS, id) {
+        Ok(i) => i,
+        Err(refusal) => return refuse(s, refusal),
+    };
     let p = t.packages[i];
-    let session = s.session;
-    let check = check_package(t, i, p, store, session);
-    let refusal = check.number;
-    if refusal != 0 {
-        return refused(s, refusal);
+    match check_package(t, i, p, store, s.session) {
+        Ok(work) => begin_processing(s, i, p, work),
+        Err(refusal) => refuse(s, refusal),
     }
-    let work = check.work;
-    begin_processing(s, i, p, work)
 }
 
 // Process(id): moves Idle or Ready to Processing.
-pub fn process(s: State, store: &[u8], id: u32) -> Answered
+pub fn process(s: State, store: &[u8], id: u32) -> Answered<Answer>
     ensures meaning { view_answered result store.now ≡ step (view_state s) store.now (process id) }
     ensures exact { outcome result store.now ≡ process_called s store.now id }
     ensures sound { SoundIfAccepted (outcome result store.now) }
 {
     if !sound(s, store.len()) {
-        return refused(s, BAD_STATE);
+        return refuse(s, Refusal::BadState);
     }
     process_on_sound(s, store, id)
 }

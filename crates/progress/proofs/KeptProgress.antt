@@ -17,12 +17,12 @@ use Rattle.state.proofs.KeptValues.{kept_there}
 
 -- b is whether the code has the manager's state as Processing
 module _ (s : State) (store : Store) (ok : sound (view_state s) store ≡ true) (b : Bool) (told : b ≡ is_processing (view_phase s.phase)) where
-  pub outside : not b ≡ true → given 0 ≡ given (progress_of (view_state s).work)
-  outside h = ap given (sym (progress-outside (view_state s) store ok (told-no b _ told h)))
+  pub outside : b ≡ false → given 0 ≡ given (progress_of (view_state s).work)
+  outside h = ap given (sym (progress-outside (view_state s) store ok (sym told ∙ h)))
 
-  pub inside : (percentage : ℕ) → not b ≡ false → percentage ≡ progress_of (some (kept_work s.work))
+  pub inside : (percentage : ℕ) → b ≡ true → percentage ≡ progress_of (some (kept_work s.work))
       → given percentage ≡ given (progress_of (view_state s).work)
-  inside percentage h same = ap given (same ∙ ap progress_of (sym (kept_there s store ok (told-yes b _ told h))))
+  inside percentage h same = ap given (same ∙ ap progress_of (sym (kept_there s store ok (sym told ∙ h))))
 
 -- b is what the check of soundness answers
 module _ (s : model.State) (store : Store) (b : Bool) (told : b ≡ sound s store) where

@@ -11,7 +11,7 @@ ghost use Rattle.reading_reply.specs.Reply.{reply_of};
 use reading_reply::ReadingReply;
 use refusal::BAD_STATE;
 use soundness::sound::sound;
-use state::phase::is_processing;
+use state::phase::Phase;
 use state::state::State;
 use state::work::Work;
 
@@ -28,9 +28,10 @@ fn percentage(w: Work) -> usize
     ensures { result ≡ progress_of (some (kept_work w)) }
 {
     if w.count == 0 {
-        return 100;
+        100
+    } else {
+        floor(w.done, w.count) as usize
     }
-    floor(w.done, w.count) as usize
 }
 
 // Answers Progress. Precondition: the state is sound; `progress` checks that before.
@@ -38,12 +39,11 @@ fn progress_on_sound(s: State, store: &[u8]) -> ReadingReply
     requires { sound_for (view_state s) (length store.now) ≡ true }
     ensures { reply_of result ≡ given (progress_of (view_state s).work) }
 {
-    let phase = s.phase;
-    if !is_processing(phase) {
-        return ReadingReply::Given(0);
+    if s.phase == Phase::Processing {
+        ReadingReply::Given(percentage(s.work))
+    } else {
+        ReadingReply::Given(0)
     }
-    let work = s.work;
-    ReadingReply::Given(percentage(work))
 }
 
 pub fn progress(s: State, store: &[u8]) -> ReadingReply

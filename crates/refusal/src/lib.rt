@@ -1,44 +1,45 @@
-// The numbers of the refusals, in the order in which they are checked: "a refusal is the number alone". 19 adds a length and is
-// therefore a case of the reading calls' reply.
+// The refusals of the calls and their numbers.
 #![tactic(auto)]
 
-pub const BAD_STATE: u32 = 1;
+ghost use Rattle.std.specs.Prelude.{◌≡◌};
+ghost use Rattle.refusal.specs.Number.{number_of};
 
-pub const SERVICE_BUSY: u32 = 2;
+// Why a call is refused, in the order in which the refusals are checked. 19 (ShortBuffer) adds a length and is therefore a case of the
+// reading calls' reply.
+#[derive(Clone, Copy, PartialEq, Eq)]
+pub enum Refusal {
+    BadState = 1,
+    ServiceBusy = 2,
+    OperationNotPermitted = 3,
+    InvalidTransferId = 4,
+    WrongPackageState = 5,
+    IncorrectBlock = 6,
+    IncorrectSize = 7,
+    InsufficientData = 8,
+    InvalidManifest = 9,
+    PackageInconsistent = 10,
+    ClusterTouched = 11,
+    ClusterPresent = 12,
+    ClusterAbsent = 13,
+    Stays = 21, // checked directly after 13
+    OldVersion = 14,
+    TableFull = 15,
+    TransfersFull = 16,
+    InsufficientMemory = 17,
+    IdsSpent = 18,
+    BadLoad = 20,
+}
 
-pub const OPERATION_NOT_PERMITTED: u32 = 3;
+impl Refusal {
+    // Returns the refusal's number: "a refusal is the number alone".
+    pub fn number(self) -> u32
+        ensures { result ≡ number_of self }
+    {
+        self as u32
+    }
+}
 
-pub const INVALID_TRANSFER_ID: u32 = 4;
+// The numbers of the refusals that are answered where no State is given back: by the reading calls, by a list of calls and by Load.
+pub const BAD_STATE: u32 = Refusal::BadState as u32;
 
-pub const WRONG_PACKAGE_STATE: u32 = 5;
-
-pub const INCORRECT_BLOCK: u32 = 6;
-
-pub const INCORRECT_SIZE: u32 = 7;
-
-pub const INSUFFICIENT_DATA: u32 = 8;
-
-pub const INVALID_MANIFEST: u32 = 9;
-
-pub const PACKAGE_INCONSISTENT: u32 = 10;
-
-pub const CLUSTER_TOUCHED: u32 = 11;
-
-pub const CLUSTER_PRESENT: u32 = 12;
-
-pub const CLUSTER_ABSENT: u32 = 13;
-
-// Checked directly after 13.
-pub const STAYS: u32 = 21;
-
-pub const OLD_VERSION: u32 = 14;
-
-pub const TABLE_FULL: u32 = 15;
-
-pub const TRANSFERS_FULL: u32 = 16;
-
-pub const INSUFFICIENT_MEMORY: u32 = 17;
-
-pub const IDS_SPENT: u32 = 18;
-
-pub const BAD_LOAD: u32 = 20;
+pub const BAD_LOAD: u32 = Refusal::BadLoad as u32;

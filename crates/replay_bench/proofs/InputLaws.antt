@@ -11,7 +11,7 @@ use lib.Seq.{take_all, drop-drop, drop-length}
 use borrow.Author.Tests.{not-true, not-false, lt-ltb, le-ltb, ltb-true}
 use Rattle.base.specs.Quoted.{LF}
 use Rattle.base.proofs.Tests.{bool_cases, clash}
-use Rattle.byte_search.specs.Bytes.{index_of, index_after, slice}
+use Rattle.byte_search.specs.Bytes.{index_of, slice}
 use Rattle.model.specs.State.{Store}
 use Rattle.script.specs.declared.gathered.Gathered.{Gathered}
 use Rattle.script.specs.Gathered.{line_so_far, with_part, gathered_with}
@@ -45,12 +45,12 @@ first_byte b l = bool_cases (eqb b LF) (λ t. rw t (omega arith)) (λ f. rw f (o
 
 -- it ends behind the first LF, or where the text ends
 first_some : (l : List ℕ) → index_of LF l < length l → length (up_to_line_end l) ≡ index_of LF l + 1
-unfolding up_to_line_end index_of index_after
+unfolding up_to_line_end
 first_some [] h = omega arith
 first_some (b ∷ l) h = bool_cases (eqb b LF) (λ t. rw t) (λ f. rw f (omega (arith, first_some l (omega (arith, rw f at h)))))
 
 first-all : (l : List ℕ) → length l ≤ index_of LF l → length (up_to_line_end l) ≡ length l
-unfolding up_to_line_end index_of index_after
+unfolding up_to_line_end
 first-all [] h = refl
 first-all (b ∷ l) h = bool_cases (eqb b LF) (λ t. omega (arith, rw t at h)) (λ f. rw f (omega (arith, first-all l (omega (arith, rw f at h)))))
 

@@ -23,42 +23,33 @@ pub struct Bench {
 pub fn new_line(is_written: bool) -> Gathering
     ensures { result ≡ new_line is_written }
 {
-    let gathered = nothing_gathered();
     Gathering {
-        gathered: gathered,
+        gathered: nothing_gathered(),
         goes_on: is_written,
     }
 }
 
-// Gives the bench before the first read.
+// Returns the bench before the first read.
 pub fn first_bench() -> Bench
     ensures { NothingRead result }
 {
-    let kept = nothing_loaded();
-    let gathering = new_line(true);
-    bench_with(kept, gathering)
+    bench_with(nothing_loaded(), new_line(true))
 }
 
-// Gives the bench with what is kept and gathered.
+// Returns the bench with what is kept and gathered.
 pub fn bench_with(kept: Kept, gathering: Gathering) -> Bench
     ensures { result ≡ bench_with kept gathering }
 {
-    Bench {
-        kept: kept,
-        gathering: gathering,
-    }
+    Bench { kept, gathering }
 }
 
-// Gives the bench after a read that failed, or at the end of the input.
+// Returns the bench after a read that failed, or at the end of the input.
 pub fn stopped(bench: Bench) -> Bench
     ensures { result ≡ bench_with bench.kept (gathering_of bench.gathering.gathered false) }
 {
-    let kept = bench.kept;
-    let before = bench.gathering;
-    let gathered = before.gathered;
     let gathering = Gathering {
-        gathered: gathered,
         goes_on: false,
+        ..bench.gathering
     };
-    bench_with(kept, gathering)
+    Bench { gathering, ..bench }
 }

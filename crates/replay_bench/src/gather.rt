@@ -53,15 +53,13 @@ pub fn gather_part(line: &mut [u8], before: Gathering, input: &[u8], at: usize) 
         × GathersPart before line.old (drop at input.now) at result line.new }
 {
     let end = behind_line(input, at);
-    let so_far = before.gathered;
-    let gathered = gather(line, so_far, &input[at..end]);
-    let gathering = Gathering {
-        gathered: gathered,
-        goes_on: true,
-    };
+    let gathered = gather(line, before.gathered, &input[at..end]);
     Part {
-        gathering: gathering,
-        end: end,
+        gathering: Gathering {
+            gathered,
+            goes_on: true,
+        },
+        end,
         ends_line: ends_line(&input[at..end]),
     }
 }
@@ -71,24 +69,20 @@ fn ended_count(gathered: Gathered, line: &[u8]) -> usize
     ensures { (result ≤ length line.now)
         × (take result line.now ≡ ended_line (line_so_far gathered line.now)) }
 {
-    let count = gathered.count;
     if gathered.is_too_long {
-        return 0;
+        0
+    } else if line.len() < gathered.count {
+        0
+    } else {
+        gathered.count
     }
-    if line.len() < count {
-        return 0;
-    }
-    count
 }
 
 // Counts the bytes of a line before its LF.
 fn text_length(count: usize) -> usize
     ensures { result ≡ count - 1 }
 {
-    if count < 1 {
-        return 0;
-    }
-    count - 1
+    count.saturating_sub(1)
 }
 
 // Reads a line that has ended.
@@ -99,9 +93,5 @@ pub fn ended_line(gathered: Gathered, line: &[u8]) -> EndedLine
     let count = ended_count(gathered, line);
     let text = text_length(count);
     let read = script_line_at(&line[..text], Cursor { at: 0 });
-    EndedLine {
-        count: count,
-        text: text,
-        read: read,
-    }
+    EndedLine { count, text, read }
 }

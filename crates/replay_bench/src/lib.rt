@@ -22,14 +22,14 @@ use crate::show::show_failure;
 use script::limits::{LINE_MOST, STORE_MOST};
 use std::io::Read;
 
-// Gives the bytes of the program's store. The contract says how many they are, so that they can be lent as a slice; so below.
+// Returns the bytes of the program's store. The contract says how many they are, so that they can be lent as a slice; so below.
 fn store_bytes() -> [u8; STORE_MOST as usize]
     ensures { store_most ≡ length result }
 {
     [0; STORE_MOST as usize]
 }
 
-// Gives room for a line, or for the bytes of one.
+// Returns room for a line, or for the bytes of one.
 fn line_bytes() -> [u8; LINE_MOST]
     ensures { line_most ≡ length result }
 {
@@ -63,8 +63,8 @@ fn read_some(
     }
 }
 
-// Reads and plays until the program ends. A proved loop has to end, and nothing says that an input does: the turns count down from a number
-// that no run uses up. Precondition: the buffer is at least as long as that of the line; `play_standard_input` lends such buffers.
+// Reads and plays until the program ends. A proved loop has to end, and nothing says that an input does: there are more turns than a
+// run uses up. Precondition: the buffer is at least as long as that of the line; `play_standard_input` lends such buffers.
 fn read_all(
     rt: &HostRuntime,
     bytes: &mut [u8],
@@ -75,14 +75,11 @@ fn read_all(
     requires { length line.old ≤ length buffer.old }
 {
     let mut bench = first_bench();
-    let mut turns = u64::MAX;
-    while turns > 0 {
-        let gathering = bench.gathering;
-        if !gathering.goes_on {
+    for _ in 0..u64::MAX {
+        if !bench.gathering.goes_on {
             return;
         }
         bench = read_some(rt, bench, bytes, line, input, buffer);
-        turns -= 1;
     }
 }
 

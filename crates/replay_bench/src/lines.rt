@@ -5,7 +5,7 @@ ghost use Rattle.replay_bench.specs.Input.{TakesInput};
 use crate::answer::show_line_answer;
 use crate::bench::{Bench, Gathering, bench_with, new_line};
 use crate::gather::{ended_line, gather_part};
-use crate::show::show_unknown;
+use crate::show::{is_written, show_unknown};
 use script_calls::play::play;
 
 // Takes every line of a part of the input, and what is left behind the last. Where a write fails, the rest is not taken. What is kept is
@@ -41,16 +41,8 @@ pub fn take_lines(
         let played = play(kept, bytes, &line[..ended.text], read, buffer);
         kept = played.kept;
         let answer = played.answer;
-        let is_written = show_line_answer(
-            rt,
-            answer,
-            kept,
-            bytes,
-            read,
-            &line[..ended.count],
-            buffer,
-        );
-        gathering = new_line(is_written);
+        let shown = show_line_answer(rt, answer, kept, bytes, read, &line[..ended.count], buffer);
+        gathering = new_line(is_written(rt, shown));
         at = part.end;
     }
     bench_with(kept, gathering)
@@ -60,6 +52,6 @@ pub fn take_lines(
 pub fn take_end(rt: &HostRuntime, gathering: Gathering) {
     let gathered = gathering.gathered;
     if gathered.is_too_long | (0 < gathered.count) {
-        show_unknown(rt);
+        is_written(rt, show_unknown(rt));
     }
 }

@@ -24,29 +24,18 @@ pub struct PackagesByValue {
     pub list: [Record; LIST_MOST],
 }
 
-// Gives the list before it is lent.
+// Returns the list before it is lent.
 fn cleared_list() -> [Record; LIST_MOST]
     ensures { result ≡ replicate records_most cleared_record }
 {
-    let cleared = cleared_record();
-    [cleared; LIST_MOST]
+    [cleared_record(); LIST_MOST]
 }
 
-// Says how much of the list is lent.
+// Returns how much of the list is lent.
 fn room_within(room: usize) -> usize
     ensures { result ≡ lent_count room records_most }
 {
     lent(room, LIST_MOST)
-}
-
-// Gives the answer with the list.
-fn with_list(answer: ReadingReply, list: [Record; LIST_MOST]) -> PackagesByValue
-    ensures { (result.answer ≡ answer) × (result.list ≡ list) }
-{
-    PackagesByValue {
-        answer: answer,
-        list: list,
-    }
 }
 
 // Makes Packages into the first places of the list, so many as room says, and at most all.
@@ -57,5 +46,5 @@ pub fn packages_by_value(s: State, store: &[u8], room: usize) -> PackagesByValue
     let mut list = cleared_list();
     let count = room_within(room);
     let answer = packages(s, store, &mut list[..count]);
-    with_list(answer, list)
+    PackagesByValue { answer, list }
 }

@@ -3,7 +3,7 @@ ghost use Rattle.std.specs.Prelude.{◌≤◌, length};
 
 use crate::packages::show_packages;
 use crate::packages_by_value::packages_by_value;
-use crate::show::{show_answer, show_bytes, show_number, show_state, show_text, show_unknown};
+use crate::show::{show_answer, show_bytes, show_number, show_state, show_unknown};
 use crate::waves::waves_line;
 use change_info::change_info;
 use cluster_info::cluster_info;
@@ -15,18 +15,16 @@ use script::line::ScriptLine;
 use script_calls::lent::lent;
 use state::answer::Answer;
 use state::state::State;
+use std::io;
 
-// Gives a number of a report in 32 bits: each is far below their end.
+// Returns a number of a report in 32 bits: each is far below their end.
 fn in_32_bits(n: usize) -> u32 {
-    if 4294967295 < n {
-        return 4294967295;
-    }
-    n as u32
+    u32::try_from(n).unwrap_or(u32::MAX)
 }
 
 // Writes the reply of a reading call: a refusal, or its number by a name. Precondition: the name has at most 20 bytes; each caller gives a
 // literal that is shorter.
-pub fn show_reply(rt: &HostRuntime, name: &[u8], reply: ReadingReply) -> bool
+pub fn show_reply(rt: &HostRuntime, name: &[u8], reply: ReadingReply) -> io::Result<()>
     requires { length name.now ≤ 20 }
 {
     match reply {
@@ -37,29 +35,35 @@ pub fn show_reply(rt: &HostRuntime, name: &[u8], reply: ReadingReply) -> bool
 }
 
 // Writes the reply of a report, and the bytes that the report wrote.
-fn show_report(rt: &HostRuntime, reply: ReadingReply, buffer: &[u8]) -> bool {
-    let is_written = show_reply(rt, b"bytes ", reply);
-    let ReadingReply::Given(n) = reply else {
-        return is_written;
-    };
-    if !is_written {
-        return false;
+fn show_report(rt: &HostRuntime, reply: ReadingReply, buffer: &[u8]) -> io::Result<()> {
+    show_reply(rt, b"bytes ", reply)?;
+    match reply {
+        ReadingReply::Given(n) => rt.write_all(&buffer[..n.min(buffer.len())]),
+        _ => Ok(()),
     }
-    if buffer.len() < n {
-        return false;
-    }
-    show_text(rt, &buffer[..n])
 }
 
 // Makes ClusterInfo into the first bytes of a buffer, so many as the line says, and at most all.
-fn clusters_line(rt: &HostRuntime, s: State, store: &[u8], room: u32, buffer: &mut [u8]) -> bool {
+fn clusters_line(
+    rt: &HostRuntime,
+    s: State,
+    store: &[u8],
+    room: u32,
+    buffer: &mut [u8],
+) -> io::Result<()> {
     let count = lent(room as usize, buffer.len());
     let reply = cluster_info(s, store, &mut buffer[..count]);
     show_report(rt, reply, buffer)
 }
 
 // Makes ChangeInfo into the first bytes of a buffer, likewise.
-fn changes_line(rt: &HostRuntime, s: State, store: &[u8], room: u32, buffer: &mut [u8]) -> bool {
+fn changes_line(
+    rt: &HostRuntime,
+    s: State,
+    store: &[u8],
+    room: u32,
+    buffer: &mut [u8],
+) -> io::Result<()> {
     let count = lent(room as usize, buffer.len());
     let reply = change_info(s, store, &mut buffer[..count]);
     show_report(rt, reply, buffer)
@@ -72,7 +76,7 @@ pub fn reading_line(
     store: &[u8],
     line: ScriptLine,
     buffer: &mut [u8],
-) -> bool {
+) -> io::Result<()> {
     match line {
         ScriptLine::Packages { room } => show_packages(
             rt,
@@ -84,7 +88,7 @@ pub fn reading_line(
         ScriptLine::Payload { id } => show_bytes(rt, b"payload ", payload(s, store, id)),
         ScriptLine::Check { id } => show_number(rt, b"check ", payload_check(s, store, id)),
         ScriptLine::Progress => show_reply(rt, b"progress ", progress(s, store)),
-        ScriptLine::OldStatus => show_number(rt, b"old ", status(s, store) as u32),
+        ScriptLine::OldStatus => show_number(rt, b"old ", u32::from(status(s, store))),
         ScriptLine::State => show_state(rt, s, store),
         ScriptLine::Store => show_bytes(rt, b"store ", store),
         _ => show_unknown(rt),

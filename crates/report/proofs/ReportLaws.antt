@@ -1,4 +1,4 @@
--- Report on the structs and in the model: what a sound state meets, what is given by its parts, and that it is seen as the model's.
+-- Report on the structs and in the model: what a sound state meets, and that what is given is seen as the model's.
 -- Assumes nothing.
 use Prim.Native.Nat.{◌≤◌}
 use mathlib.Core.Path.{◌≡◌, refl, ap, ◌∙◌}
@@ -62,33 +62,6 @@ staged-within session few long ok t e =
     let w = and_right (table_within b) _ ok in
     rw (e, view-staged session few long ok)
     (apply-all-within b [] acts (and_left (table_within b) _ ok) (and_left (actions_within acts) _ w) (and_right (actions_within acts) _ w))
-
--- ---- what is given, by its parts
-
--- a state in another phase, with an answer
-pub give-phase : (answer answer' : Answer) (phase phase' : Phase) (s s' : State) (r : Answered) → answer' ≡ answer → phase' ≡ phase
-    → s' ≡ in_phase phase' s → r ≡ answered answer' s' → r ≡ answered answer (in_phase phase s)
-give-phase answer answer' phase phase' s s' r d e f g = rw (g, f, e, d)
-
--- a phase after a clean-up that was bad, of an origin that is known
-pub give-failed : (known origin : CleanUpOrigin) → origin ≡ known → failed_phase known ≡ failed_phase origin
-give-failed known origin e = rw e
-
--- with the store as it was
-pub give-answered : (r r' : Answered) (store : Store) → r ≡ r' → outcome r store ≡ outcome r' store
-give-answered r r' store e = rw e
-
--- in the manager's state that is known
-pub give-in : (s : State) (store : Store) (phase known : Phase) (good : Bool) (o : Outcome) → phase ≡ known → o ≡ phase_reported s store known good
-    → o ≡ phase_reported s store phase good
-give-in s store phase known good o e f = rw e f
-
--- after a clean-up
-pub give-cleaned : (s : State) (store store' : Store) (origin : CleanUpOrigin) (table : Table) (transfers : Transfers) (session : Session) (r : Answered)
-    → table ≡ running_table (CleaningUp origin) s.session → session ≡ next_session s.session table
-    → transfers ≡ remaining_transfers AllProcessed s.transfers → store' ≡ deleted (keeps AllProcessed) (view_packages s.transfers) store
-    → r ≡ answered Done (state Idle transfers session s.work) → outcome r store' ≡ cleaned_up s store origin
-give-cleaned s store store' origin table transfers session r a b c d e = rw (e, d, c, b, a)
 
 -- ---- what is given is the model's
 

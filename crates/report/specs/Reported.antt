@@ -35,14 +35,14 @@ pub record CleanUpFits (s : State) (store_length : ℕ) : Type 0 where
 -- "Activating: bad gives Ready, PreActivationFailed. Good gives Ready, MissingDependencies, if some need of some cluster isn't met in
 -- the staged table; else Verifying."; of bad with an unmet need A.6: "From now on the two together give MissingDependencies, still
 -- with Ready." By good, and by whether all needs are met
-abbrev pub activating_reported : State → Bool → Bool → Answered
+abbrev pub activating_reported : State → Bool → Bool → Answered Answer
 activating_reported s good met =
     cond met
     (cond good (answered Done (in_phase Verifying s)) (answered PreActivationFailed (in_phase Ready s)))
     (answered MissingDependencies (in_phase Ready s))
 
 -- "Verifying: good gives Activated, bad stays, VerificationFailed."
-abbrev pub verifying_reported : State → Bool → Answered
+abbrev pub verifying_reported : State → Bool → Answered Answer
 verifying_reported s good = cond good (answered Done (in_phase Activated s)) (answered VerificationFailed (in_phase Verifying s))
 
 -- "the state it came from"
@@ -51,7 +51,7 @@ rollback_phase rollback.Verifying = Verifying
 rollback_phase rollback.Activated = Activated
 
 -- "RollingBack: good gives RolledBack; bad the state it came from, NotAbleToRollback."
-abbrev pub rolling_back_reported : State → RollbackOrigin → Bool → Answered
+abbrev pub rolling_back_reported : State → RollbackOrigin → Bool → Answered Answer
 rolling_back_reported s origin good =
     cond good (answered Done (in_phase RolledBack s)) (answered NotAbleToRollback (in_phase (rollback_phase origin) s))
 

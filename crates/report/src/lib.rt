@@ -17,10 +17,10 @@ ghost use Rattle.report.specs.Reported.{report_called, report_called_on_sound};
 use areas::deletion::{Deletion, delete_areas, remaining};
 use clusters::needs::needs_met;
 use clusters::table::Table;
-use refusal::{BAD_STATE, OPERATION_NOT_PERMITTED};
+use refusal::Refusal;
 use soundness::sound::sound;
 use staging::{running, staged};
-use state::answer::{Answer, Answered, answer_with, refused};
+use state::answer::{Answer, Answered, answer_with, refuse};
 use state::permissions::{REPORT, allowed};
 use state::phase::{CleanUpOrigin, Phase, RollbackOrigin};
 use state::session::Session;
@@ -28,7 +28,7 @@ use state::state::{State, in_phase};
 
 // Answers a report in Activating: an unmet need of the staged table comes before a bad report, because a missing package is looked for
 // first.
-fn answer_activating(s: State, good: bool, met: bool) -> Answered
+fn answer_activating(s: State, good: bool, met: bool) -> Answered<Answer>
     ensures { result ≡ activating_reported s good met }
 {
     if !met {
@@ -41,17 +41,16 @@ fn answer_activating(s: State, good: bool, met: bool) -> Answered
 }
 
 // Takes a report in Activating. Precondition: the session is sound and its list has at most 16 entries; a sound state meets it.
-fn report_activating(s: State, good: bool) -> Answered
+fn report_activating(s: State, good: bool) -> Answered<Answer>
     requires { (s.session.count ≤ entries_most) × (session_sound (view_session s.session) ≡ true) }
     ensures { result ≡ activating_reported s good (needs_met (view_table (staged_table s.session))) }
 {
-    let session = s.session;
-    let met = needs_met(staged(session));
+    let met = needs_met(staged(s.session));
     answer_activating(s, good, met)
 }
 
 // Takes a report in Verifying.
-fn report_verifying(s: State, good: bool) -> Answered
+fn report_verifying(s: State, good: bool) -> Answered<Answer>
     ensures { result ≡ verifying_reported s good }
 {
     if good {
@@ -71,7 +70,7 @@ fn rollback_phase(origin: RollbackOrigin) -> Phase
 }
 
 // Takes a report in RollingBack, by where it came from.
-fn report_rolling_back(s: State, origin: RollbackOrigin, good: bool) -> Answered
+fn report_rolling_back(s: State, origin: RollbackOrigin, good: bool) -> Answered<Answer>
     ensures { result ≡ rolling_back_reported s origin good }
 {
     if good {
@@ -88,32 +87,28 @@ fn report_rolling_back(s: State, origin: RollbackOrigin, good: bool) -> Answered
 fn next_session(session: Session, beginning: Table) -> Session
     ensures { result ≡ next_session session beginning }
 {
-    let entries = session.entries;
     Session {
-        beginning: beginning,
-        entries: entries,
+        beginning,
         count: 0,
+        ..session
     }
 }
 
 // Ends a clean-up that was good: goes to Idle without the Processed packages, and the running table begins the next session. Precondition:
 // there are at most 16 packages, whose areas fit the store, and at most 16 entries; a sound state meets it.
-fn clean_up(s: State, store: &mut [u8], origin: CleanUpOrigin) -> Answered
+fn clean_up(s: State, store: &mut [u8], origin: CleanUpOrigin) -> Answered<Answer>
     requires { CleanUpFits s (length store.old) }
     ensures { outcome result store.new ≡ cleaned_up s store.old origin }
 {
     let session = s.session;
     let next = next_session(session, running(Phase::CleaningUp(origin), session));
     let t = s.transfers;
-    let deletion = Deletion::AllProcessed;
-    delete_areas(t, deletion, store);
-    let transfers = remaining(t, deletion);
-    let work = s.work;
+    delete_areas(t, Deletion::AllProcessed, store);
     let cleaned = State {
         phase: Phase::Idle,
-        transfers: transfers,
+        transfers: remaining(t, Deletion::AllProcessed),
         session: next,
-        work: work,
+        work: s.work,
     };
     answer_with(Answer::Done, cleaned)
 }
@@ -124,8 +119,7 @@ fn failed_answer(origin: CleanUpOrigin) -> Answer
 {
     match origin {
         CleanUpOrigin::Ready => Answer::NotAbleToRevert,
-        CleanUpOrigin::Activated => Answer::CleaningFailed,
-        CleanUpOrigin::RolledBack => Answer::CleaningFailed,
+        CleanUpOrigin::Activated | CleanUpOrigin::RolledBack => Answer::CleaningFailed,
     }
 }
 
@@ -135,26 +129,30 @@ fn failed_phase(origin: CleanUpOrigin) -> Phase
 {
     match origin {
         CleanUpOrigin::Ready => Phase::Ready,
-        CleanUpOrigin::Activated => Phase::CleaningUp(CleanUpOrigin::Activated),
-        CleanUpOrigin::RolledBack => Phase::CleaningUp(CleanUpOrigin::RolledBack),
+        CleanUpOrigin::Activated | CleanUpOrigin::RolledBack => Phase::CleaningUp(origin),
     }
 }
 
 // Takes a report in CleaningUp. Precondition: that of `clean_up`; a sound state meets it.
-fn report_cleaning_up(s: State, store: &mut [u8], origin: CleanUpOrigin, good: bool) -> Answered
+fn report_cleaning_up(
+    s: State,
+    store: &mut [u8],
+    origin: CleanUpOrigin,
+    good: bool,
+) -> Answered<Answer>
     requires { CleanUpFits s (length store.old) }
     ensures { outcome result store.new ≡ cleaning_up_reported s store.old origin good }
 {
     if good {
         return clean_up(s, store, origin);
     }
-    let answer = failed_answer(origin);
-    answer_with(answer, in_phase(s, failed_phase(origin)))
+    answer_with(failed_answer(origin), in_phase(s, failed_phase(origin)))
 }
 
 // Takes a report in a manager's state, and refuses it in the five that do not allow it. Precondition: the state is sound for the store;
 // `report_on_sound` requires it too.
-fn report_in(s: State, store: &mut [u8], phase: Phase, good: bool) -> Answered
+#[tactic(auto, unfolding(crate::specs::Reported::phase_reported))]
+fn report_in(s: State, store: &mut [u8], phase: Phase, good: bool) -> Answered<Answer>
     requires { sound_for (view_state s) (length store.old) ≡ true }
     ensures { outcome result store.new ≡ phase_reported s store.old phase good }
 {
@@ -163,34 +161,30 @@ fn report_in(s: State, store: &mut [u8], phase: Phase, good: bool) -> Answered
         Phase::Verifying => report_verifying(s, good),
         Phase::RollingBack(origin) => report_rolling_back(s, origin, good),
         Phase::CleaningUp(origin) => report_cleaning_up(s, store, origin, good),
-        Phase::Idle => refused(s, OPERATION_NOT_PERMITTED),
-        Phase::Ready => refused(s, OPERATION_NOT_PERMITTED),
-        Phase::Processing => refused(s, OPERATION_NOT_PERMITTED),
-        Phase::Activated => refused(s, OPERATION_NOT_PERMITTED),
-        Phase::RolledBack => refused(s, OPERATION_NOT_PERMITTED),
+        Phase::Idle | Phase::Ready | Phase::Processing | Phase::Activated | Phase::RolledBack =>
+            refuse(s, Refusal::OperationNotPermitted),
     }
 }
 
 // Makes the call after refusal 1. Precondition: the state is sound for the store; `report` and `manager::call` check it.
-pub fn report_on_sound(s: State, store: &mut [u8], good: bool) -> Answered
+pub fn report_on_sound(s: State, store: &mut [u8], good: bool) -> Answered<Answer>
     requires { sound_for (view_state s) (length store.old) ≡ true }
     ensures { outcome result store.new ≡ report_called_on_sound s store.old good }
 {
-    let phase = s.phase;
-    if !allowed(phase, REPORT) {
-        return refused(s, OPERATION_NOT_PERMITTED);
+    if !allowed(s.phase, REPORT) {
+        return refuse(s, Refusal::OperationNotPermitted);
     }
-    report_in(s, store, phase, good)
+    report_in(s, store, s.phase, good)
 }
 
 // Report(good or bad): takes what the machine reports.
-pub fn report(s: State, store: &mut [u8], good: bool) -> Answered
+pub fn report(s: State, store: &mut [u8], good: bool) -> Answered<Answer>
     ensures meaning { view_answered result store.new ≡ step (view_state s) store.old (report good) }
     ensures exact { outcome result store.new ≡ report_called s store.old good }
     ensures sound { SoundIfAccepted (outcome result store.new) }
 {
     if !sound(s, store.len()) {
-        return refused(s, BAD_STATE);
+        return refuse(s, Refusal::BadState);
     }
     report_on_sound(s, store, good)
 }

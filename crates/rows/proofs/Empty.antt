@@ -1,6 +1,6 @@
--- How the code sees that a field is empty: by its length. `search field-tests` where a call gave the field. Assumes nothing.
+-- How the code sees that a field is empty: by its length. Assumes nothing.
 use Prim.Native.Nat.{ℕ, ◌≤◌, ◌<◌}
-use mathlib.Core.Path.{◌≡◌, refl, sym}
+use mathlib.Core.Path.{◌≡◌, refl}
 use mathlib.Core.Bool.{true, false, false≢true}
 use mathlib.Core.List.{List, [], ◌∷◌}
 use native.Mathlib.Omega.{arith}
@@ -15,18 +15,6 @@ pub some_byte : (l : List ℕ) → 1 ≤ length l → is_empty l ≡ false
 some_byte [] h = absurd (omega arith)
 some_byte (b ∷ l) h = refl
 
-pub ruleset emptiness = (no_byte, some_byte)
-
 pub empty-length : (l : List ℕ) → is_empty l ≡ true → length l ≡ 0
 empty-length [] h = refl
 empty-length (b ∷ l) h = absurd (false≢true h)
-
--- w is the field that a call gave
-module _ (w v : List ℕ) (here : w ≡ v) where
-  pub is-empty : length w < 1 → true ≡ is_empty v
-  is-empty h = sym (rw here at (no_byte w h))
-
-  pub is-filled : 1 ≤ length w → false ≡ is_empty v
-  is-filled h = sym (rw here at (some_byte w h))
-
-pub ruleset field-tests = (is-empty, is-filled)

@@ -2,36 +2,44 @@
 use Prim.Native.Nat.{ℕ, suc, ◌+◌, ◌-◌, ◌≤◌, ◌<◌}
 use mathlib.Core.Path.{◌≡◌, refl, sym, ap, ◌∙◌}
 use mathlib.Core.List.{List, [], ◌∷◌}
-use native.Mathlib.Numerals.{add-one}
 use native.Mathlib.Omega.{arith}
-use lib.ListN.{length, get_or, take, drop, drop_of_length-le, length-drop}
-use lib.Seq.{drop-cons, drop-drop}
-use borrow.Author.Tests.{eq-eqb, ne_eqb}
-use Rattle.base.specs.Quoted.{comma, LF}
+use lib.ListN.{length, take, drop, drop_of_length-le, length-drop}
+use lib.Seq.{drop-drop}
+use borrow.Author.Rules.{part_to_end}
+use Rattle.std.specs.Prelude.{Option, Some, None, position}
+use Rattle.std.specs.List.{position_or_len}
+use Rattle.std.proofs.lemmas.List.Recursion.{is_position_or_len}
 use Rattle.base.proofs.Tests.{bool_cases, cond_cases}
+use Rattle.text.proofs.Positions.{position-at, position-nowhere}
 use Rattle.rows.specs.Field.{ends_field, field, behind_field, cell, Start}
 
-module _ (s : List ℕ) (p x : ℕ) (q : x ≡ p + length (field (drop p s))) where
-  pub field_end : length s ≤ p → p ≡ x
-  unfolding field
-  field_end h = rw (q, drop_of_length-le s h) (omega arith)
-
-  pub field-comma : p < length s → get_or s p 0 ≡ comma → p ≡ x
-  unfolding field ends_field
-  field-comma h e = rw (q, drop-cons s p 0 h, eq-eqb _ _ e) (omega arith)
-
-  pub field-LF : p < length s → (get_or s p 0 ≡ comma → ⊥) → get_or s p 0 ≡ LF → p ≡ x
-  unfolding field ends_field
-  field-LF h n e = rw (q, drop-cons s p 0 h, ne_eqb _ _ n, eq-eqb _ _ e) (omega arith)
-
-  pub field-on : p < length s → (get_or s p 0 ≡ comma → ⊥) → (get_or s p 0 ≡ LF → ⊥) → x ≡ p + 1 + length (field (drop (p + 1) s))
-  unfolding field ends_field
-  field-on h n m = q ∙ rw (drop-cons s p 0 h, ne_eqb _ _ n, ne_eqb _ _ m, add-one p) (omega arith)
+-- the field ends at the first byte that ends one
+length-position : (l : List ℕ) → length (field l) ≡ position_or_len ends_field l
+unfolding field
+length-position = is_position_or_len (λ l. length (field l)) ends_field refl λ b l. bool_cases (ends_field b) (λ t. rw t) (λ f. rw f (omega arith))
 
 pub length-field : (l : List ℕ) → length (field l) ≤ length l
 unfolding field
 length-field [] = omega arith
 length-field (b ∷ l) = cond_cases (λ w. length w ≤ length (b ∷ l)) (ends_field b) [] (b ∷ field l) (λ t. omega arith) (λ f. omega (arith, length-field l))
+
+-- the same where a part of a text was searched
+module _ (s : List ℕ) (from : ℕ) (x : Option ℕ) (q : x ≡ position ends_field (take (length s - from) (drop from s))) where
+  found : x ≡ position ends_field (drop from s)
+  found = rw part_to_end at q
+
+  pub field-found : (k : ℕ) → x ≡ Some k → from + k ≡ from + length (field (drop from s))
+  field-found k e = rw (length-position, (position-at ends_field (drop from s) k (sym found ∙ e)).0)
+
+  pub field-not-found : x ≡ None → from ≤ length s → length s ≡ from + length (field (drop from s))
+  field-not-found e w =
+      omega (
+        arith,
+        length-drop from s,
+        length-field (drop from s),
+        length-position (drop from s),
+        position-nowhere ends_field (drop from s) (sym found ∙ e),
+      )
 
 -- the field is the text's first bytes, and what is behind it begins one byte behind it
 pub field-take : (l : List ℕ) → field l ≡ take (length (field l)) l
@@ -66,22 +74,14 @@ module _ (s : List ℕ) (from end : ℕ) (q : end ≡ from + length (field (drop
         (sym (drop_of_length-le s {i = from + suc (length (field (drop from s)))} (omega arith)));
   }
 
--- A line's field number k, of which the code has passed i fields. A cursor past the end is as one at the end
-module _ (s : List ℕ) where
-  pub cursor-past : (at from : ℕ) → length s < at → from ≡ length s → drop from s ≡ drop at s
-  cursor-past at from h e = rw (drop_of_length-le s {i = from} (omega arith)) (sym (drop_of_length-le s {i = at} (omega arith)))
+-- a line's field number k, of which the code has passed i fields
+module _ (s : List ℕ) (k i at from : ℕ) (q : cell k (drop at s) ≡ cell (k - i) (drop from s)) where
+  pub cell-next : (next : ℕ) → i < k → Start next (behind_field (drop from s)) s → cell k (drop at s) ≡ cell (k - (i + 1)) (drop next s)
+  unfolding cell
+  cell-next next h b =
+      let e : k - i ≡ suc (k - (i + 1)) = omega arith in
+      q ∙ rw (e, b.begins)
 
-  pub cursor-within : (at from : ℕ) → from ≡ at → drop from s ≡ drop at s
-  cursor-within at from e = rw e
-
-  module _ (k i start from : ℕ) (q : cell k (drop start s) ≡ cell (k - i) (drop from s)) where
-    pub cell-next : (next : ℕ) → i < k → Start next (behind_field (drop from s)) s
-        → cell k (drop start s) ≡ cell (k - (i + 1)) (drop next s)
-    unfolding cell
-    cell-next next h b =
-        let e : k - i ≡ suc (k - (i + 1)) = omega arith in
-        q ∙ rw (e, b.begins)
-
-    pub cell-here : (at : ℕ) → k ≤ i → drop start s ≡ drop at s → field (drop from s) ≡ cell k (drop at s)
-    unfolding cell
-    cell-here at h b = let e : k - i ≡ 0 = omega arith in rw (← b, q, e)
+  pub cell-here : k ≤ i → field (drop from s) ≡ cell k (drop at s)
+  unfolding cell
+  cell-here h = let e : k - i ≡ 0 = omega arith in rw (q, e)

@@ -2,7 +2,6 @@ pub mod FieldLaws
 pub mod Empty
 pub mod LineLaws
 pub mod ColumnLaws
-pub mod ThenLaws
 pub mod Plain
 pub mod LineBounds
 pub mod LineBack

@@ -7,11 +7,11 @@ use native.Mathlib.Omega.{arith}
 use native.Mathlib.Nat.{add-zero}
 use lib.ListN.{length, get_or, drop, length-append}
 use borrow.Author.Tests.{ne_eqb}
+use Rattle.std.specs.Prelude.{Some}
 use Rattle.base.specs.Quoted.{comma, LF}
 use Rattle.base.proofs.Tests.{and_left, and_right}
 use Rattle.text.specs.Number.{cursor}
 use Rattle.text.proofs.Bytes.{each_first, each-rest}
-use Rattle.rows.specs.declared.line.Line.TheVariants.{Ends}
 use Rattle.rows.specs.Field.{ends_field, field_byte, plain_field, field, behind_field, cell}
 use Rattle.rows.specs.Line.{line_from, line_text, plain_fields}
 use Rattle.rows.proofs.Plain.{field-byte-stays, field-byte-comma, field-byte-LF}
@@ -55,18 +55,18 @@ module _ (rest : List ℕ) where
   more-text w v ws = append_assoc w (comma ∷ line_text (v ∷ ws)) rest
 
   pub line-back : (p : ℕ) (w : List ℕ) (ws : List (List ℕ)) → plain_fields (w ∷ ws) ≡ true
-      → line_from (length ws) p (line_text (w ∷ ws) ++ rest) ≡ Ends (cursor (p + length (line_text (w ∷ ws))))
+      → line_from (length ws) p (line_text (w ∷ ws) ++ rest) ≡ Some (cursor (p + length (line_text (w ∷ ws))))
   unfolding line_from line_text plain_fields
   line-back p w [] h =
       let e : p + length w + 1 ≡ p + length (w ++ LF ∷ []) = omega (arith, length-append w (LF ∷ [])) in
-      rw (last-text w) (line-past 0 p w (LF ∷ rest) (and_left (plain_field w) _ h) ∙ ap (λ (q : ℕ). Ends (cursor q)) e)
+      rw (last-text w) (line-past 0 p w (LF ∷ rest) (and_left (plain_field w) _ h) ∙ ap (λ (q : ℕ). Some (cursor q)) e)
   line-back p w (v ∷ ws) h =
       let e : p + length w + 1 + length (line_text (v ∷ ws)) ≡ p + length (w ++ comma ∷ line_text (v ∷ ws)) =
       omega (arith, length-append w (comma ∷ line_text (v ∷ ws))) in
       rw (more-text w v ws)
       (line-past (suc (length ws)) p w _ (and_left (plain_field w) _ h)
       ∙ (comma-past (length ws) (p + length w) (line_text (v ∷ ws) ++ rest)
-      ∙ (line-back (p + length w + 1) v ws (and_right (plain_field w) _ h) ∙ ap (λ (q : ℕ). Ends (cursor q)) e)))
+      ∙ (line-back (p + length w + 1) v ws (and_right (plain_field w) _ h) ∙ ap (λ (q : ℕ). Some (cursor q)) e)))
 
   pub cell-back : (k : ℕ) (ws : List (List ℕ)) → plain_fields ws ≡ true → k < length ws → cell k (line_text ws ++ rest) ≡ get_or ws k []
   unfolding cell plain_fields field behind_field ends_field
@@ -80,7 +80,7 @@ module _ (rest : List ℕ) where
 -- a line that stands in a text. What is behind it begins where `drop_past` of the crate text says
 module _ (s : List ℕ) (at : ℕ) (w : List ℕ) (ws : List (List ℕ)) (rest : List ℕ)
     (e : drop at s ≡ line_text (w ∷ ws) ++ rest) (h : plain_fields (w ∷ ws) ≡ true) where
-  pub line-stands : line_from (length ws) at (drop at s) ≡ Ends (cursor (at + length (line_text (w ∷ ws))))
+  pub line-stands : line_from (length ws) at (drop at s) ≡ Some (cursor (at + length (line_text (w ∷ ws))))
   line-stands = rw e (line-back rest at w ws h)
 
   pub cell-stands : (k : ℕ) → k < length (w ∷ ws) → cell k (drop at s) ≡ get_or (w ∷ ws) k []

@@ -6,21 +6,20 @@ use mathlib.Core.List.{List, [], ◌∷◌}
 use native.Mathlib.Omega.{arith}
 use lib.Dec.{eqb}
 use lib.ListN.{length, drop, length-drop}
+use Rattle.std.specs.Prelude.{Option, Some, None}
 use Rattle.base.specs.Quoted.{comma, LF}
 use Rattle.base.proofs.Tests.{cond_cases}
 use Rattle.text.specs.declared.cursor.Cursor.{Cursor}
-use Rattle.rows.specs.declared.line.Line.{Line}
-use Rattle.rows.specs.declared.line.Line.TheVariants.{Ends, IllFormed}
 use Rattle.rows.specs.Line.{line_from}
 
 -- a line that ends behind p and at most at e
-abbrev EndsIn : ℕ → ℕ → Line → Type 0
-EndsIn p e (Ends next) = (p < next.at) × (next.at ≤ e)
-EndsIn p e IllFormed = Unit {0}
+abbrev EndsIn : ℕ → ℕ → Option Cursor → Type 0
+EndsIn p e (Some next) = (p < next.at) × (next.at ≤ e)
+EndsIn p e None = Unit {0}
 
-ends-later : (p e : ℕ) (x : Line) → EndsIn (p + 1) e x → EndsIn p e x
-ends-later p e (Ends next) w = (omega (arith, w.0), w.1)
-ends-later p e IllFormed w = tt
+ends-later : (p e : ℕ) (x : Option Cursor) → EndsIn (p + 1) e x → EndsIn p e x
+ends-later p e (Some next) w = (omega (arith, w.0), w.1)
+ends-later p e None w = tt
 
 line-ends-in : (commas p e : ℕ) (l : List ℕ) → p + length l ≤ e → EndsIn p e (line_from commas p l)
 unfolding line_from
@@ -33,8 +32,8 @@ line-ends-in commas p e (b ∷ l) o =
     (λ _. let left = cond (eqb b comma) (commas - 1) commas in
     ends-later p e (line_from left (p + 1) l) (line-ends-in left (p + 1) e l (omega arith))))
 
-module _ (commas p : ℕ) (l : List ℕ) (next : Cursor) (h : line_from commas p l ≡ Ends next) where
-  ended : EndsIn p (p + length l) (Ends next)
+module _ (commas p : ℕ) (l : List ℕ) (next : Cursor) (h : line_from commas p l ≡ Some next) where
+  ended : EndsIn p (p + length l) (Some next)
   ended = rw h at (line-ends-in commas p (p + length l) l (omega arith))
 
   pub line_after : p < next.at
@@ -44,8 +43,8 @@ module _ (commas p : ℕ) (l : List ℕ) (next : Cursor) (h : line_from commas p
   line-inside = ended.1
 
 -- the same of a line at a position of a text, of which a call told x
-module _ (s : List ℕ) (commas at : ℕ) (x : Line) (next : Cursor) (e : x ≡ line_from commas at (drop at s)) (h : x ≡ Ends next) where
-  found : line_from commas at (drop at s) ≡ Ends next
+module _ (s : List ℕ) (commas at : ℕ) (x : Option Cursor) (next : Cursor) (e : x ≡ line_from commas at (drop at s)) (h : x ≡ Some next) where
+  found : line_from commas at (drop at s) ≡ Some next
   found = sym e ∙ h
 
   pub line-at-after : at < next.at

@@ -7,11 +7,10 @@ use native.Mathlib.Omega.{arith}
 use lib.Dec.{eqb}
 use lib.ListN.{length}
 use borrow.Author.Tests.{eqb-true, eqb-false}
+use Rattle.std.specs.Prelude.{Option, Some, None}
 use Rattle.base.specs.Quoted.{comma, LF}
 use Rattle.base.proofs.Tests.{cond_cases}
 use Rattle.text.specs.declared.cursor.Cursor.{Cursor}
-use Rattle.rows.specs.declared.line.Line.{Line}
-use Rattle.rows.specs.declared.line.Line.TheVariants.{Ends, IllFormed}
 use Rattle.rows.specs.Field.{ends_field, field, behind_field, cell}
 use Rattle.rows.specs.Line.{line_from}
 use Rattle.rows.proofs.Totals.{total_below}
@@ -34,14 +33,14 @@ module _ (b : ℕ) (l : List ℕ) where
   bytes-last e = rw e (omega arith)
 
 -- a line that ends where its fields, its commas and its LF end
-abbrev EndsBehind : ℕ → ℕ → List ℕ → Line → Type 0
-EndsBehind commas p l (Ends next) = next.at ≡ p + fields_bytes (suc commas) l + commas + 1
-EndsBehind commas p l IllFormed = Unit {0}
+abbrev EndsBehind : ℕ → ℕ → List ℕ → Option Cursor → Type 0
+EndsBehind commas p l (Some next) = next.at ≡ p + fields_bytes (suc commas) l + commas + 1
+EndsBehind commas p l None = Unit {0}
 
-ends-shifted : (commas p : ℕ) (l : List ℕ) (commas' p' : ℕ) (l' : List ℕ) (x : Line)
+ends-shifted : (commas p : ℕ) (l : List ℕ) (commas' p' : ℕ) (l' : List ℕ) (x : Option Cursor)
     → p' + fields_bytes (suc commas') l' + commas' ≡ p + fields_bytes (suc commas) l + commas → EndsBehind commas' p' l' x → EndsBehind commas p l x
-ends-shifted commas p l commas' p' l' (Ends next) e w = omega arith
-ends-shifted commas p l commas' p' l' IllFormed e w = tt
+ends-shifted commas p l commas' p' l' (Some next) e w = omega arith
+ends-shifted commas p l commas' p' l' None e w = tt
 
 comma-ends : (b : ℕ) → eqb b comma ≡ true → ends_field b ≡ true
 unfolding ends_field
@@ -80,5 +79,5 @@ line-ends-behind commas p (b ∷ l) =
     goes_on false e f z ih =
         ends-shifted commas p (b ∷ l) commas (p + 1) l (line_from commas (p + 1) l) (omega (arith, bytes_on b l commas (no_end b e f))) (ih commas)
 
-pub line-bytes : (commas p : ℕ) (l : List ℕ) (next : Cursor) → line_from commas p l ≡ Ends next → next.at ≡ p + fields_bytes (suc commas) l + commas + 1
+pub line-bytes : (commas p : ℕ) (l : List ℕ) (next : Cursor) → line_from commas p l ≡ Some next → next.at ≡ p + fields_bytes (suc commas) l + commas + 1
 line-bytes commas p l next e = rw e at (line-ends-behind commas p l)

@@ -2,13 +2,11 @@
 use Prim.Native.Nat.{ℕ}
 use mathlib.Core.Path.{◌≡◌, refl}
 use mathlib.Core.List.{List, [], ◌∷◌, ◌++◌}
+use Rattle.std.specs.Prelude.{Some, None}
 use Rattle.base.specs.Quoted.{bytes, LF}
 use Rattle.text.specs.Number.{cursor}
 use Rattle.text.specs.Word.{same_bytes}
 use Rattle.rows.specs.declared.columns.ClusterColumns.{ClusterColumns}
-use Rattle.rows.specs.declared.columns.Column.TheVariants.{At, Missing}
-use Rattle.rows.specs.declared.list_columns.ListColumnsRead.TheVariants as List-read
-use Rattle.rows.specs.declared.columns.PackageColumnsRead.TheVariants as package-read
 use Rattle.rows.specs.Field.{ends_field, field, behind_field, cell}
 use Rattle.rows.specs.Line.{line_from, line_text}
 use Rattle.rows.specs.Columns.{column_from, cluster_columns, package_columns}
@@ -33,17 +31,17 @@ in_order = record { cluster = 0; version = 1; needs = 2; least = 3 }
 
 module _ (rest : List ℕ) where
   pub four-names : list_columns (bytes "cluster,version,needs,least" ++ LF ∷ rest)
-      ≡ List-read.Named (record { cluster_columns = in_order; stays = Missing }) (cursor 28)
+      ≡ Some (record { cluster_columns = in_order; stays = None }, cursor 28)
   unfolding list_columns four_columns line_from cluster_columns column_from cell field behind_field ends_field same_bytes
   four-names = refl
 
   pub five-names : list_columns (bytes "cluster,version,needs,least,stays" ++ LF ∷ rest)
-      ≡ List-read.Named (record { cluster_columns = in_order; stays = At 4 }) (cursor 34)
+      ≡ Some (record { cluster_columns = in_order; stays = Some 4 }, cursor 34)
   unfolding list_columns five_columns line_from cluster_columns column_from cell field behind_field ends_field same_bytes
   five-names = refl
 
   pub package-names-columns : package_columns 7 (bytes "action,cluster,version,payload,sum,needs,least" ++ LF ∷ rest)
-      ≡ package-read.Named (record {
+      ≡ Some (record {
         action = 0;
         payload = 3;
         sum = 4;

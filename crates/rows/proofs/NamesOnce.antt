@@ -8,29 +8,22 @@ use native.Mathlib.Omega.{arith}
 use lib.Dec.{eqb}
 use lib.ListN.{length}
 use borrow.Author.Tests.{eqb-true}
+use Rattle.std.specs.Prelude.{Option, Some, None}
 use Rattle.base.specs.Quoted.{bytes}
 use Rattle.base.proofs.Tests.{and_left, and_right, bool_cases}
 use Rattle.text.specs.declared.cursor.Cursor.{Cursor}
 use Rattle.text.specs.Word.{same_bytes}
+use Rattle.text.proofs.ThenLaws.{then-cases-some}
 use Rattle.text.proofs.WordLaws.{same-bytes-self}
-use Rattle.rows.specs.declared.columns.Column.TheVariants.{At, Missing}
-use Rattle.rows.specs.declared.line.Line.TheVariants.{Ends}
 use Rattle.rows.specs.declared.list_columns.ListColumns.{ListColumns}
-use Rattle.rows.specs.declared.list_columns.ListColumnsRead.{ListColumnsRead}
-use Rattle.rows.specs.declared.list_columns.ListColumnsRead.TheVariants as List-read
 use Rattle.rows.specs.declared.columns.ClusterColumns.{ClusterColumns}
-use Rattle.rows.specs.declared.columns.ClusterColumnsRead.{ClusterColumnsRead}
-use Rattle.rows.specs.declared.columns.ClusterColumnsRead.TheVariants as cluster-read
 use Rattle.rows.specs.declared.columns.PackageColumns.{PackageColumns}
-use Rattle.rows.specs.declared.columns.PackageColumnsRead.{PackageColumnsRead}
-use Rattle.rows.specs.declared.columns.PackageColumnsRead.TheVariants as package-read
 use Rattle.rows.specs.Field.{behind_field, cell}
 use Rattle.rows.specs.Line.{line_from}
 use Rattle.rows.specs.Columns.{column_from, cluster_columns, package_columns}
 use Rattle.rows.specs.ListColumns.{four_columns, five_columns, list_columns}
 use Rattle.rows.specs.Names.{cluster_names, list_names, package_names, times_named, times_in}
 use Rattle.rows.proofs.ColumnMeaning.{column-below, column-cell}
-use Rattle.rows.proofs.ThenLaws.{then-cases-line, then-cases-column, then-cases-cluster-columns}
 use Rattle.rows.proofs.Totals.{total_of, total_below, mark_at, NoneTwice, EachBelow, all-places}
 
 -- no name is twice in the list
@@ -41,7 +34,7 @@ different (name ∷ names) = eqb (times_in name names) 0 && different names
 -- the columns of names, each found among so many fields of a line
 pub data Placed (fields : ℕ) (l : List ℕ) : List (List ℕ) → List ℕ → Type 0 where
   none : Placed fields l [] []
-  more : {name : List ℕ} {k : ℕ} {names : List (List ℕ)} {ks : List ℕ} → column_from fields 0 name l ≡ At k → Placed fields l names ks
+  more : {name : List ℕ} {k : ℕ} {names : List (List ℕ)} {ks : List ℕ} → column_from fields 0 name l ≡ Some k → Placed fields l names ks
       → Placed fields l (name ∷ names) (k ∷ ks)
 
 module _ {fields : ℕ} {l : List ℕ} where
@@ -100,27 +93,27 @@ cluster_places c = c.cluster ∷ c.version ∷ c.needs ∷ c.least ∷ []
 abbrev pub list_places : ClusterColumns → ℕ → List ℕ
 list_places c stays = c.cluster ∷ c.version ∷ c.needs ∷ c.least ∷ stays ∷ []
 
-abbrev ClusterPlaced : ℕ → List ℕ → ClusterColumnsRead → Type 0
-ClusterPlaced fields l (cluster-read.Named c) = Placed fields l cluster_names (cluster_places c)
-ClusterPlaced fields l cluster-read.IllFormed = Unit {0}
+abbrev ClusterPlaced : ℕ → List ℕ → Option ClusterColumns → Type 0
+ClusterPlaced fields l (Some c) = Placed fields l cluster_names (cluster_places c)
+ClusterPlaced fields l None = Unit {0}
 
 cluster-columns-placed : (fields : ℕ) (l : List ℕ) → ClusterPlaced fields l (cluster_columns fields l)
 unfolding cluster_columns
 cluster-columns-placed fields l =
-    then-cases-column (ClusterPlaced fields l) cluster-read.IllFormed (column_from fields 0 (bytes "cluster") l) _ tt λ cluster e₁.
-    then-cases-column (ClusterPlaced fields l) cluster-read.IllFormed (column_from fields 0 (bytes "version") l) _ tt λ version e₂.
-    then-cases-column (ClusterPlaced fields l) cluster-read.IllFormed (column_from fields 0 (bytes "needs") l) _ tt λ needs e₃.
-    then-cases-column (ClusterPlaced fields l) cluster-read.IllFormed (column_from fields 0 (bytes "least") l) _ tt λ least e₄.
+    then-cases-some (ClusterPlaced fields l) None (column_from fields 0 (bytes "cluster") l) _ tt λ cluster e₁.
+    then-cases-some (ClusterPlaced fields l) None (column_from fields 0 (bytes "version") l) _ tt λ version e₂.
+    then-cases-some (ClusterPlaced fields l) None (column_from fields 0 (bytes "needs") l) _ tt λ needs e₃.
+    then-cases-some (ClusterPlaced fields l) None (column_from fields 0 (bytes "least") l) _ tt λ least e₄.
     more e₁ (more e₂ (more e₃ (more e₄ none)))
 
-pub cluster-placed : (fields : ℕ) (l : List ℕ) (c : ClusterColumns) → cluster_columns fields l ≡ cluster-read.Named c → Placed fields l cluster_names (cluster_places c)
+pub cluster-placed : (fields : ℕ) (l : List ℕ) (c : ClusterColumns) → cluster_columns fields l ≡ Some c → Placed fields l cluster_names (cluster_places c)
 cluster-placed fields l c e = subst (ClusterPlaced fields l) e (cluster-columns-placed fields l)
 
 pub cluster-names-differ : different cluster_names ≡ true
 unfolding different times_in same_bytes
 cluster-names-differ = refl
 
-pub cluster-names-once : (l : List ℕ) (c : ClusterColumns) → cluster_columns 4 l ≡ cluster-read.Named c
+pub cluster-names-once : (l : List ℕ) (c : ClusterColumns) → cluster_columns 4 l ≡ Some c
     → (name : List ℕ) → times_named 4 name l ≡ times_in name cluster_names
 cluster-names-once l c e = as-often (cluster-placed 4 l c e) cluster-names-differ
 
@@ -128,32 +121,32 @@ cluster-names-once l c e = as-often (cluster-placed 4 l c e) cluster-names-diffe
 
 -- it has four fields and the four names, or five fields and the five names
 pub data ListPlaced (l : List ℕ) (columns : ListColumns) (next : Cursor) : Type 0 where
-  four : line_from 3 0 l ≡ Ends next → columns.stays ≡ Missing → Placed 4 l cluster_names (cluster_places columns.cluster_columns)
+  four : line_from 3 0 l ≡ Some next → columns.stays ≡ None → Placed 4 l cluster_names (cluster_places columns.cluster_columns)
       → ListPlaced l columns next
-  five : (stays : ℕ) → line_from 4 0 l ≡ Ends next → columns.stays ≡ At stays
+  five : (stays : ℕ) → line_from 4 0 l ≡ Some next → columns.stays ≡ Some stays
       → Placed 5 l list_names (list_places columns.cluster_columns stays) → ListPlaced l columns next
 
-abbrev ListRead : List ℕ → ListColumnsRead → Type 0
-ListRead l (List-read.Named columns next) = ListPlaced l columns next
-ListRead l List-read.IllFormed = Unit {0}
+abbrev ListRead : List ℕ → Option (ListColumns × Cursor) → Type 0
+ListRead l (Some (columns, next)) = ListPlaced l columns next
+ListRead l None = Unit {0}
 
 list-columns-placed : (l : List ℕ) → ListRead l (list_columns l)
 unfolding list_columns four_columns five_columns
 list-columns-placed l =
-    then-cases-line (ListRead l) _ (line_from 3 0 l) _
-    (then-cases-line (ListRead l) List-read.IllFormed (line_from 4 0 l) _ tt λ next e.
-    then-cases-cluster-columns (ListRead l) List-read.IllFormed (cluster_columns 5 l) _ tt λ c named.
-    then-cases-column (ListRead l) List-read.IllFormed (column_from 5 0 (bytes "stays") l) _ tt λ stays marked.
+    then-cases-some (ListRead l) _ (line_from 3 0 l) _
+    (then-cases-some (ListRead l) None (line_from 4 0 l) _ tt λ next e.
+    then-cases-some (ListRead l) None (cluster_columns 5 l) _ tt λ c named.
+    then-cases-some (ListRead l) None (column_from 5 0 (bytes "stays") l) _ tt λ stays marked.
     five stays e refl (behind marked (cluster-placed 5 l c named)))
     λ next e.
-    then-cases-cluster-columns (ListRead l) List-read.IllFormed (cluster_columns 4 l) _ tt λ c named.
+    then-cases-some (ListRead l) None (cluster_columns 4 l) _ tt λ c named.
     four e refl (cluster-placed 4 l c named)
   where
-    behind : {stays cluster version needs least : ℕ} → column_from 5 0 (bytes "stays") l ≡ At stays
+    behind : {stays cluster version needs least : ℕ} → column_from 5 0 (bytes "stays") l ≡ Some stays
         → Placed 5 l cluster_names (cluster ∷ version ∷ needs ∷ least ∷ []) → Placed 5 l list_names (cluster ∷ version ∷ needs ∷ least ∷ stays ∷ [])
     behind e (more c (more v (more n (more least rest)))) = more c (more v (more n (more least (more e none))))
 
-pub list-placed : (l : List ℕ) (columns : ListColumns) (next : Cursor) → list_columns l ≡ List-read.Named columns next → ListPlaced l columns next
+pub list-placed : (l : List ℕ) (columns : ListColumns) (next : Cursor) → list_columns l ≡ Some (columns, next) → ListPlaced l columns next
 list-placed l columns next e = subst (ListRead l) e (list-columns-placed l)
 
 pub list-names-differ : different list_names ≡ true
@@ -167,22 +160,22 @@ list-names-once l c stays found = as-often found list-names-differ
 
 -- ---- the seven names of a package
 
-abbrev PackagePlaced : List ℕ → PackageColumnsRead → Type 0
-PackagePlaced l (package-read.Named c) = Placed 7 l package_names
+abbrev PackagePlaced : List ℕ → Option PackageColumns → Type 0
+PackagePlaced l (Some c) = Placed 7 l package_names
     (c.action ∷ c.cluster_columns.cluster ∷ c.cluster_columns.version ∷ c.payload ∷ c.sum ∷ c.cluster_columns.needs ∷ c.cluster_columns.least ∷ [])
-PackagePlaced l package-read.IllFormed = Unit {0}
+PackagePlaced l None = Unit {0}
 
 package-placed : (l : List ℕ) → PackagePlaced l (package_columns 7 l)
 unfolding package_columns
 package-placed l =
-    then-cases-cluster-columns (PackagePlaced l) package-read.IllFormed (cluster_columns 7 l) _ tt λ c e.
-    then-cases-column (PackagePlaced l) package-read.IllFormed (column_from 7 0 (bytes "action") l) _ tt λ action e₁.
-    then-cases-column (PackagePlaced l) package-read.IllFormed (column_from 7 0 (bytes "payload") l) _ tt λ payload e₂.
-    then-cases-column (PackagePlaced l) package-read.IllFormed (column_from 7 0 (bytes "sum") l) _ tt λ sum e₃.
+    then-cases-some (PackagePlaced l) None (cluster_columns 7 l) _ tt λ c e.
+    then-cases-some (PackagePlaced l) None (column_from 7 0 (bytes "action") l) _ tt λ action e₁.
+    then-cases-some (PackagePlaced l) None (column_from 7 0 (bytes "payload") l) _ tt λ payload e₂.
+    then-cases-some (PackagePlaced l) None (column_from 7 0 (bytes "sum") l) _ tt λ sum e₃.
     among e₁ e₂ e₃ (cluster-placed 7 l c e)
   where
-    among : {action payload sum cluster version needs least : ℕ} → column_from 7 0 (bytes "action") l ≡ At action → column_from 7 0 (bytes "payload") l ≡ At payload
-        → column_from 7 0 (bytes "sum") l ≡ At sum → Placed 7 l cluster_names (cluster ∷ version ∷ needs ∷ least ∷ [])
+    among : {action payload sum cluster version needs least : ℕ} → column_from 7 0 (bytes "action") l ≡ Some action → column_from 7 0 (bytes "payload") l ≡ Some payload
+        → column_from 7 0 (bytes "sum") l ≡ Some sum → Placed 7 l cluster_names (cluster ∷ version ∷ needs ∷ least ∷ [])
         → Placed 7 l package_names (action ∷ cluster ∷ version ∷ payload ∷ sum ∷ needs ∷ least ∷ [])
     among a p s (more c (more v (more n (more least rest)))) = more a (more c (more v (more p (more s (more n (more least none))))))
 
@@ -190,6 +183,6 @@ package-names-differ : different package_names ≡ true
 unfolding different times_in same_bytes
 package-names-differ = refl
 
-pub package-names-once : (l : List ℕ) (c : PackageColumns) → package_columns 7 l ≡ package-read.Named c
+pub package-names-once : (l : List ℕ) (c : PackageColumns) → package_columns 7 l ≡ Some c
     → (name : List ℕ) → times_named 7 name l ≡ times_in name package_names
 package-names-once l c e = as-often (subst (PackagePlaced l) e (package-placed l)) package-names-differ

@@ -6,13 +6,6 @@ use crate::reader::cell_at;
 use text::cursor::Cursor;
 use text::word::is_word;
 
-// What looking for a name among the fields of a line finds: the number of its field.
-#[derive(Clone, Copy)]
-pub enum Column {
-    At(usize),
-    Missing,
-}
-
 // The columns of the cluster list, which a package has too.
 #[derive(Clone, Copy)]
 pub struct ClusterColumns {
@@ -20,12 +13,6 @@ pub struct ClusterColumns {
     pub version: usize,
     pub needs: usize,
     pub least: usize,
-}
-
-#[derive(Clone, Copy)]
-pub enum ClusterColumnsRead {
-    Named(ClusterColumns),
-    IllFormed,
 }
 
 // The columns of a package.
@@ -37,43 +24,28 @@ pub struct PackageColumns {
     pub cluster_columns: ClusterColumns,
 }
 
-#[derive(Clone, Copy)]
-pub enum PackageColumnsRead {
-    Named(PackageColumns),
-    IllFormed,
-}
-
-// Finds the first of the given number of fields of a line that is the name.
-pub fn column_of(s: &[u8], line: Cursor, fields: usize, name: &[u8]) -> Column
+// Finds the first of the given number of fields of a line that is the name: the number of the field.
+pub fn column_of(s: &[u8], line: Cursor, fields: usize, name: &[u8]) -> Option<usize>
     ensures { result ≡ column_from fields 0 name.now (drop line.at s.now) }
 {
-    let mut k = 0;
-    while k < fields {
+    for k in 0..fields {
         if is_word(cell_at(s, line, k), name) {
-            return Column::At(k);
+            return Some(k);
         }
-        k += 1;
     }
-    Column::Missing
+    None
 }
 
 // Finds the four names of the cluster list among the given number of fields.
-pub fn cluster_columns(s: &[u8], line: Cursor, fields: usize) -> ClusterColumnsRead
+#[tactic(auto, unfolding(crate::specs::Columns::cluster_columns))]
+pub fn cluster_columns(s: &[u8], line: Cursor, fields: usize) -> Option<ClusterColumns>
     ensures { result ≡ cluster_columns fields (drop line.at s.now) }
 {
-    let Column::At(cluster) = column_of(s, line, fields, b"cluster") else {
-        return ClusterColumnsRead::IllFormed;
-    };
-    let Column::At(version) = column_of(s, line, fields, b"version") else {
-        return ClusterColumnsRead::IllFormed;
-    };
-    let Column::At(needs) = column_of(s, line, fields, b"needs") else {
-        return ClusterColumnsRead::IllFormed;
-    };
-    let Column::At(least) = column_of(s, line, fields, b"least") else {
-        return ClusterColumnsRead::IllFormed;
-    };
-    ClusterColumnsRead::Named(ClusterColumns {
+    let cluster = column_of(s, line, fields, b"cluster")?;
+    let version = column_of(s, line, fields, b"version")?;
+    let needs = column_of(s, line, fields, b"needs")?;
+    let least = column_of(s, line, fields, b"least")?;
+    Some(ClusterColumns {
         cluster,
         version,
         needs,
@@ -82,22 +54,15 @@ pub fn cluster_columns(s: &[u8], line: Cursor, fields: usize) -> ClusterColumnsR
 }
 
 // Finds the seven names of a package among the given number of fields.
-pub fn package_columns(s: &[u8], line: Cursor, fields: usize) -> PackageColumnsRead
+#[tactic(auto, unfolding(crate::specs::Columns::package_columns))]
+pub fn package_columns(s: &[u8], line: Cursor, fields: usize) -> Option<PackageColumns>
     ensures { result ≡ package_columns fields (drop line.at s.now) }
 {
-    let ClusterColumnsRead::Named(cluster_columns) = cluster_columns(s, line, fields) else {
-        return PackageColumnsRead::IllFormed;
-    };
-    let Column::At(action) = column_of(s, line, fields, b"action") else {
-        return PackageColumnsRead::IllFormed;
-    };
-    let Column::At(payload) = column_of(s, line, fields, b"payload") else {
-        return PackageColumnsRead::IllFormed;
-    };
-    let Column::At(sum) = column_of(s, line, fields, b"sum") else {
-        return PackageColumnsRead::IllFormed;
-    };
-    PackageColumnsRead::Named(PackageColumns {
+    let cluster_columns = cluster_columns(s, line, fields)?;
+    let action = column_of(s, line, fields, b"action")?;
+    let payload = column_of(s, line, fields, b"payload")?;
+    let sum = column_of(s, line, fields, b"sum")?;
+    Some(PackageColumns {
         action,
         payload,
         sum,

@@ -1,37 +1,33 @@
 // Lines: fields parted by commas, ended by LF.
-ghost use Rattle.std.specs.Prelude.{◌≡◌, drop};
+ghost use Rattle.std.specs.Prelude.{position, count_by, ◌==◌, ◌≡◌, drop};
+ghost use Rattle.base.specs.Quoted.{comma, LF};
 ghost use Rattle.rows.specs.Line.{line_from};
 
 use text::cursor::Cursor;
 
-// What reading a line finds: the cursor behind its LF.
-#[derive(Clone, Copy)]
-pub enum Line {
-    Ends(Cursor),
-    IllFormed,
+// Finds the first LF of a text.
+fn first_line_end(s: &[u8]) -> Option<usize>
+    ensures { result ≡ position (λ b. b == LF) s.now }
+{
+    s.iter().position(|b| *b == b'\n')
 }
 
-// Reads the line at a position, which has one field more than commas.
-pub fn line_from(s: &[u8], at: usize, commas: usize) -> Line
+// Counts the commas of a text.
+fn commas_in(s: &[u8]) -> usize
+    ensures { result ≡ count_by (λ b. b == comma) s.now }
+{
+    s.iter().filter(|b| **b == b',').count()
+}
+
+// Reads the line at a position, which has one field more than commas: the cursor behind its LF.
+pub fn line_from(s: &[u8], at: usize, commas: usize) -> Option<Cursor>
     ensures { result ≡ line_from commas at (drop at s.now) }
 {
-    let mut left = commas;
-    let mut i = at;
-    while i < s.len() {
-        let b = s[i];
-        if b == b'\n' {
-            if left == 0 {
-                return Line::Ends(Cursor { at: i + 1 });
-            }
-            return Line::IllFormed;
-        }
-        if b == b',' {
-            if left == 0 {
-                return Line::IllFormed;
-            }
-            left -= 1;
-        }
-        i += 1;
+    let rest = s.get(at..)?;
+    let end = first_line_end(rest)?;
+    if commas_in(&rest[..end]) == commas {
+        Some(Cursor { at: at + end + 1 })
+    } else {
+        None
     }
-    Line::IllFormed
 }

@@ -1,11 +1,10 @@
 // The names line of a cluster list: four names, or five with the name of the mark.
-ghost use Rattle.std.specs.Prelude.{◌≡◌};
+ghost use Rattle.std.specs.Prelude.{◌≡◌, None};
 ghost use Rattle.rows.specs.ListColumns.{list_columns, five_columns};
-ghost use Rattle.rows.specs.Line.{line_from, and_then_line};
-ghost use Rattle.rows.specs.declared.list_columns.ListColumnsRead.TheVariants as read;
+ghost use Rattle.rows.specs.Line.{line_from};
+ghost use Rattle.text.specs.Then.{and_then_some};
 
-use crate::columns::{ClusterColumns, ClusterColumnsRead, Column, cluster_columns, column_of};
-use crate::line::Line;
+use crate::columns::{ClusterColumns, cluster_columns, column_of};
 use crate::reader::line_at;
 use text::cursor::Cursor;
 
@@ -13,51 +12,43 @@ use text::cursor::Cursor;
 #[derive(Clone, Copy)]
 pub struct ListColumns {
     pub cluster_columns: ClusterColumns,
-    pub stays: Column,
-}
-
-// What reading the names line finds: the columns, and the cursor behind its LF.
-#[derive(Clone, Copy)]
-pub enum ListColumnsRead {
-    Named(ListColumns, Cursor),
-    IllFormed,
+    pub stays: Option<usize>,
 }
 
 // Reads a names line of five fields.
-fn five_columns(s: &[u8]) -> ListColumnsRead
-    ensures { result ≡ and_then_line read.IllFormed (line_from 4 0 s.now) (λ next. five_columns next s.now) }
+#[tactic(auto, unfolding(crate::specs::ListColumns::five_columns))]
+fn five_columns(s: &[u8]) -> Option<(ListColumns, Cursor)>
+    ensures { result ≡ and_then_some None (line_from 4 0 s.now) (λ next. five_columns next.at s.now) }
 {
     let names = Cursor { at: 0 };
-    let Line::Ends(next) = line_at(s, names, 4) else {
-        return ListColumnsRead::IllFormed;
-    };
-    let ClusterColumnsRead::Named(cluster_columns) = cluster_columns(s, names, 5) else {
-        return ListColumnsRead::IllFormed;
-    };
-    let Column::At(stays) = column_of(s, names, 5, b"stays") else {
-        return ListColumnsRead::IllFormed;
-    };
-    let columns = ListColumns {
-        cluster_columns,
-        stays: Column::At(stays),
-    };
-    ListColumnsRead::Named(columns, next)
+    let next = line_at(s, names, 4)?;
+    let cluster_columns = cluster_columns(s, names, 5)?;
+    let stays = Some(column_of(s, names, 5, b"stays")?);
+    Some((
+        ListColumns {
+            cluster_columns,
+            stays,
+        },
+        next,
+    ))
 }
 
-// Reads the names line that a list begins with: the number of its fields decides between four names and five.
-pub fn list_columns(s: &[u8]) -> ListColumnsRead
+// Reads the names line that a list begins with, the number of whose fields decides between four names and five: the columns, and the
+// cursor behind its LF.
+#[tactic(auto, unfolding(crate::specs::ListColumns::four_columns, crate::specs::ListColumns::list_columns))]
+pub fn list_columns(s: &[u8]) -> Option<(ListColumns, Cursor)>
     ensures { result ≡ list_columns s.now }
 {
     let names = Cursor { at: 0 };
-    let Line::Ends(next) = line_at(s, names, 3) else {
+    let Some(next) = line_at(s, names, 3) else {
         return five_columns(s);
     };
-    let ClusterColumnsRead::Named(cluster_columns) = cluster_columns(s, names, 4) else {
-        return ListColumnsRead::IllFormed;
-    };
-    let columns = ListColumns {
-        cluster_columns,
-        stays: Column::Missing,
-    };
-    ListColumnsRead::Named(columns, next)
+    let cluster_columns = cluster_columns(s, names, 4)?;
+    Some((
+        ListColumns {
+            cluster_columns,
+            stays: None,
+        },
+        next,
+    ))
 }

@@ -7,10 +7,10 @@ use native.Mathlib.Omega.{arith}
 use lib.ListN.{length, get_or, take, drop, length-drop, drop_of_length-le, get_or-eq_default}
 use lib.Seq.{take_all}
 use borrow.Author.Tests.{eq-eqb, ne_eqb}
+use Rattle.std.specs.Prelude.{Option, None}
 use Rattle.base.specs.Quoted.{bytes}
 use Rattle.text.specs.Word.{same_bytes}
-use Rattle.text.specs.declared.number.Number.{Number}
-use Rattle.text.specs.declared.number.Number.TheVariants as number
+use Rattle.text.specs.declared.cursor.Cursor.{Cursor}
 use Rattle.script.specs.declared.line.ScriptLine.{ScriptLine}
 use Rattle.script.specs.declared.line.ScriptLine.TheVariants as line
 use Rattle.script.specs.Words.{word_at, last_number}
@@ -35,7 +35,7 @@ module _ (s : List ℕ) (at : ℕ) where
   line-command end x q n e = e ∙ rw (ne_eqb _ _ n, word-part s at end q, q)
 
   -- no number is the last word
-  pub line-fixed : (w : List ℕ) (next : ℕ) (x : Number) (r : ScriptLine) → x ≡ last_number s next number_most → x ≡ number.IllFormed
+  pub line-fixed : (w : List ℕ) (next : ℕ) (x : Option (ℕ × Cursor)) (r : ScriptLine) → x ≡ last_number s next number_most → x ≡ None
       → r ≡ session_line (take (length s - at) (drop at s)) → r ≡ short_line s at w next
   unfolding short_line
   line-fixed w next x r e h g = rw (← e, h) (rw (take_all (length s - at) (drop at s) (omega (arith, length-drop at s))) at g)

@@ -2,14 +2,14 @@
 use Rattle.std.specs.Prelude.{ℕ, true, false, cond, List, get_or, drop, eqb, ltb}
 use Rattle.base.specs.Quoted.{bytes}
 use Rattle.text.specs.Word.{same_bytes}
-use Rattle.text.specs.Then.{and_then}
+use Rattle.text.specs.Then.{and_then_read, and_then_some}
 use Rattle.request.specs.declared.Request.TheVariants as call
 use Rattle.four_state.specs.declared.call.OldCall.TheVariants as old
 use Rattle.script.specs.declared.line.ScriptLine.{ScriptLine}
 use Rattle.script.specs.declared.line.ScriptLine.TheVariants as line
 use Rattle.script.specs.Limits.{number_most, store_most, records_most, waves_most, report_most}
 use Rattle.script.specs.Words.{word_at, behind_word, number_word, last_number}
-use Rattle.script.specs.Place.{last_block, and_then_block}
+use Rattle.script.specs.Place.{last_block}
 
 -- "a line that begins with `#`"
 abbrev pub hash : ℕ
@@ -20,24 +20,24 @@ hash = 35
 -- "`load FIRST STORE BYTES`"
 unfoldable pub load_line : List ℕ → ℕ → ScriptLine
 load_line s at =
-    and_then line.Unknown (number_word s at number_most) λ first behind-first.
-    and_then line.Unknown (number_word s behind-first.at store_most) λ store behind-store.
-    and_then_block line.Unknown (last_block s behind-store.at) λ list.
+    and_then_read line.Unknown (number_word s at number_most) λ first behind-first.
+    and_then_read line.Unknown (number_word s behind-first.at store_most) λ store behind-store.
+    and_then_some line.Unknown (last_block s behind-store.at) λ list.
     line.Load first store list
 
 -- "`data ID COUNTER BYTES`"
 unfoldable pub data_line : List ℕ → ℕ → ScriptLine
 data_line s at =
-    and_then line.Unknown (number_word s at number_most) λ id behind-id.
-    and_then line.Unknown (number_word s behind-id.at number_most) λ counter behind-counter.
-    and_then_block line.Unknown (last_block s behind-counter.at) λ b.
+    and_then_read line.Unknown (number_word s at number_most) λ id behind-id.
+    and_then_read line.Unknown (number_word s behind-id.at number_most) λ counter behind-counter.
+    and_then_some line.Unknown (last_block s behind-counter.at) λ b.
     line.Data id counter b
 
 -- "`poke AT BYTES`"
 unfoldable pub poke_line : List ℕ → ℕ → ScriptLine
 poke_line s at =
-    and_then line.Unknown (number_word s at number_most) λ n behind-n.
-    and_then_block line.Unknown (last_block s behind-n.at) λ b.
+    and_then_read line.Unknown (number_word s at number_most) λ n behind-n.
+    and_then_some line.Unknown (last_block s behind-n.at) λ b.
     line.Poke n b
 
 -- ---- lines of a word and one number
@@ -117,7 +117,7 @@ old_fixed_line s =
 
 -- "`old cancel ID`"; "`old cancel` without id and any word more are `unknown`"
 unfoldable pub old_cancel_line : List ℕ → ℕ → ScriptLine
-old_cancel_line s at = and_then line.Unknown (last_number s at number_most) λ id end. line.Old (old.Cancel id)
+old_cancel_line s at = and_then_read line.Unknown (last_number s at number_most) λ id end. line.Old (old.Cancel id)
 
 -- the words from a position on
 unfoldable pub old_line : List ℕ → ℕ → ScriptLine
@@ -127,7 +127,7 @@ old_line s at = cond (same_bytes (word_at s at) (bytes "cancel")) (old_cancel_li
 
 -- a line of one number, or of fixed words, whose first word ends at a position
 unfoldable pub short_line : List ℕ → ℕ → List ℕ → ℕ → ScriptLine
-short_line s at w next = and_then (session_line (drop at s)) (last_number s next number_most) λ n end. transfer_line w n
+short_line s at w next = and_then_read (session_line (drop at s)) (last_number s next number_most) λ n end. transfer_line w n
 
 -- a line by its first word, with the position behind that
 unfoldable pub command_line : List ℕ → ℕ → List ℕ → ℕ → ScriptLine

@@ -1,10 +1,9 @@
 -- "words are parted by one space. Numbers are decimal without leading zeros". A line is lent without its LF, so that a word ends at the next
 -- space or at the end of the line.
-use Rattle.std.specs.Prelude.{ℕ, ◌+◌, cond, List, [], ◌∷◌, length, drop, eqb, leb}
-use Rattle.text.specs.declared.number.Number.{Number}
-use Rattle.text.specs.declared.number.Number.TheVariants.{Value, IllFormed}
+use Rattle.std.specs.Prelude.{ℕ, ◌+◌, cond, List, [], ◌∷◌, length, drop, eqb, leb, Option, Some, None}
+use Rattle.text.specs.declared.cursor.Cursor.{Cursor}
 use Rattle.text.specs.Number.{cursor, whole_number}
-use Rattle.text.specs.Then.{and_then}
+use Rattle.text.specs.Then.{and_then_read}
 
 -- "one space"
 abbrev pub space : ℕ
@@ -24,11 +23,11 @@ abbrev pub behind_word : List ℕ → ℕ → ℕ
 behind_word s at = at + length (word_at s at) + 1
 
 -- the number that the word at a position is, at most as large as `most`: "a number past its range" is `unknown`
-unfoldable pub number_word : List ℕ → ℕ → ℕ → Number
-number_word s at most = and_then IllFormed (whole_number most (word_at s at)) λ n end. Value n (cursor (behind_word s at))
+unfoldable pub number_word : List ℕ → ℕ → ℕ → Option (ℕ × Cursor)
+number_word s at most = and_then_read None (whole_number most (word_at s at)) λ n end. Some (n, cursor (behind_word s at))
 
 -- the same of the last word of the line
-unfoldable pub last_number : List ℕ → ℕ → ℕ → Number
+unfoldable pub last_number : List ℕ → ℕ → ℕ → Option (ℕ × Cursor)
 last_number s at most =
-    and_then IllFormed (number_word s at most) λ n next.
-    cond (leb next.at (length s)) IllFormed (Value n next)
+    and_then_read None (number_word s at most) λ n next.
+    cond (leb next.at (length s)) None (Some (n, next))

@@ -33,7 +33,7 @@ pub fn gather(line: &mut [u8], gathered: Gathered, part: &[u8]) -> Gathered
     }
     if line.len() - count < part.len() {
         return Gathered {
-            count: count,
+            count,
             is_too_long: true,
         };
     }

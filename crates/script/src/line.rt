@@ -6,12 +6,11 @@ use crate::fixed::session_line;
 use crate::limits::{NUMBER_MOST, STORE_MOST};
 use crate::numbered::transfer_line;
 use crate::old::old_line;
-use crate::place::{BlockRead, Place, last_block};
+use crate::place::{Place, last_block};
 use crate::words::{last_number, number_word, word_end};
 use four_state::call::OldCall;
 use request::Request;
 use text::cursor::Cursor;
-use text::number::Number;
 use text::word::is_word;
 
 // A call with its numbers and the place of its bytes, one of the lines that are no call, or none of them.
@@ -39,68 +38,61 @@ pub enum ScriptLine {
 }
 
 // Reads the words behind `load`.
+#[tactic(auto, unfolding(crate::specs::Line::load_line))]
 fn read_load_line(s: &[u8], cursor: Cursor) -> ScriptLine
     ensures { result ≡ load_line s.now cursor.at }
 {
-    let Number::Value(first, behind_first) = number_word(s, cursor, NUMBER_MOST) else {
+    let Some((first, behind_first)) = number_word(s, cursor, NUMBER_MOST) else {
         return ScriptLine::Unknown;
     };
-    let Number::Value(store, behind_store) = number_word(s, behind_first, STORE_MOST) else {
+    let Some((store, behind_store)) = number_word(s, behind_first, STORE_MOST) else {
         return ScriptLine::Unknown;
     };
-    let BlockRead::At(list) = last_block(s, behind_store) else {
+    let Some(list) = last_block(s, behind_store) else {
         return ScriptLine::Unknown;
     };
-    ScriptLine::Load {
-        first: first,
-        store: store,
-        list: list,
-    }
+    ScriptLine::Load { first, store, list }
 }
 
 // Reads the words behind `data`.
+#[tactic(auto, unfolding(crate::specs::Line::data_line))]
 fn read_data_line(s: &[u8], cursor: Cursor) -> ScriptLine
     ensures { result ≡ data_line s.now cursor.at }
 {
-    let Number::Value(id, behind_id) = number_word(s, cursor, NUMBER_MOST) else {
+    let Some((id, behind_id)) = number_word(s, cursor, NUMBER_MOST) else {
         return ScriptLine::Unknown;
     };
-    let Number::Value(counter, behind_counter) = number_word(s, behind_id, NUMBER_MOST) else {
+    let Some((counter, behind_counter)) = number_word(s, behind_id, NUMBER_MOST) else {
         return ScriptLine::Unknown;
     };
-    let BlockRead::At(block) = last_block(s, behind_counter) else {
+    let Some(block) = last_block(s, behind_counter) else {
         return ScriptLine::Unknown;
     };
-    ScriptLine::Data {
-        id: id,
-        counter: counter,
-        block: block,
-    }
+    ScriptLine::Data { id, counter, block }
 }
 
 // Reads the words behind `poke`.
+#[tactic(auto, unfolding(crate::specs::Line::poke_line))]
 fn read_poke_line(s: &[u8], cursor: Cursor) -> ScriptLine
     ensures { result ≡ poke_line s.now cursor.at }
 {
-    let Number::Value(at, behind_at) = number_word(s, cursor, NUMBER_MOST) else {
+    let Some((at, behind_at)) = number_word(s, cursor, NUMBER_MOST) else {
         return ScriptLine::Unknown;
     };
-    let BlockRead::At(bytes) = last_block(s, behind_at) else {
+    let Some(bytes) = last_block(s, behind_at) else {
         return ScriptLine::Unknown;
     };
-    ScriptLine::Poke {
-        at: at,
-        bytes: bytes,
-    }
+    ScriptLine::Poke { at, bytes }
 }
 
 // Reads a line of one number, or of fixed words, with its first word and the cursor behind that. Precondition: the line begins within the
 // text; `command_line` requires it.
+#[tactic(auto, unfolding(crate::specs::Line::short_line))]
 fn short_line(s: &[u8], from: usize, word: &[u8], next: Cursor) -> ScriptLine
     requires { from ≤ length s.now }
     ensures { result ≡ short_line s.now from word.now next.at }
 {
-    let Number::Value(n, _) = last_number(s, next, NUMBER_MOST) else {
+    let Some((n, _)) = last_number(s, next, NUMBER_MOST) else {
         return session_line(&s[from..]);
     };
     transfer_line(word, n)
@@ -108,23 +100,22 @@ fn short_line(s: &[u8], from: usize, word: &[u8], next: Cursor) -> ScriptLine
 
 // Reads a line that is no remark, with its first word and the cursor behind that. Precondition: the line begins within the text;
 // `script_line_at` has tested it.
+#[tactic(auto, unfolding(crate::specs::Line::command_line))]
 fn command_line(s: &[u8], from: usize, word: &[u8], next: Cursor) -> ScriptLine
     requires { from ≤ length s.now }
     ensures { result ≡ command_line s.now from word.now next.at }
 {
     if is_word(word, b"load") {
-        return read_load_line(s, next);
+        read_load_line(s, next)
+    } else if is_word(word, b"data") {
+        read_data_line(s, next)
+    } else if is_word(word, b"poke") {
+        read_poke_line(s, next)
+    } else if is_word(word, b"old") {
+        old_line(s, next)
+    } else {
+        short_line(s, from, word, next)
     }
-    if is_word(word, b"data") {
-        return read_data_line(s, next);
-    }
-    if is_word(word, b"poke") {
-        return read_poke_line(s, next);
-    }
-    if is_word(word, b"old") {
-        return old_line(s, next);
-    }
-    short_line(s, from, word, next)
 }
 
 // Reads the line at a cursor, up to the end of the text.

@@ -7,33 +7,32 @@ use crate::line::ScriptLine;
 use crate::words::{last_number, word_end};
 use four_state::call::OldCall;
 use text::cursor::Cursor;
-use text::number::Number;
 use text::word::is_word;
 
 // Reads the status and the calls without an id.
+#[tactic(auto, unfolding(crate::specs::Line::old_fixed_line))]
 fn old_fixed_line(s: &[u8]) -> ScriptLine
     ensures { result ≡ old_fixed_line s.now }
 {
     if is_word(s, b"status") {
-        return ScriptLine::OldStatus;
+        ScriptLine::OldStatus
+    } else if is_word(s, b"activate") {
+        ScriptLine::Old(OldCall::Activate)
+    } else if is_word(s, b"revert") {
+        ScriptLine::Old(OldCall::Revert)
+    } else if is_word(s, b"rollback") {
+        ScriptLine::Old(OldCall::Rollback)
+    } else {
+        ScriptLine::Unknown
     }
-    if is_word(s, b"activate") {
-        return ScriptLine::Old(OldCall::Activate);
-    }
-    if is_word(s, b"revert") {
-        return ScriptLine::Old(OldCall::Revert);
-    }
-    if is_word(s, b"rollback") {
-        return ScriptLine::Old(OldCall::Rollback);
-    }
-    ScriptLine::Unknown
 }
 
 // Reads the id behind `old cancel`.
+#[tactic(auto, unfolding(crate::specs::Line::old_cancel_line))]
 fn old_cancel_line(s: &[u8], cursor: Cursor) -> ScriptLine
     ensures { result ≡ old_cancel_line s.now cursor.at }
 {
-    let Number::Value(id, _) = last_number(s, cursor, NUMBER_MOST) else {
+    let Some((id, _)) = last_number(s, cursor, NUMBER_MOST) else {
         return ScriptLine::Unknown;
     };
     ScriptLine::Old(OldCall::Cancel(id))

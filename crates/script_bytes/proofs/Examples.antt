@@ -2,31 +2,32 @@
 use Prim.Native.String.{String}
 use mathlib.Core.Path.{refl}
 use mathlib.Core.List.{[], ◌∷◌}
+use Rattle.std.specs.Prelude.{Some, None}
 use Rattle.base.specs.Quoted.{bytes}
 use Rattle.base.proofs.Tables.{◌gives◌, AllHold}
-use Rattle.script_bytes.specs.declared.form.Form.TheVariants.{Digits, Nothing, Typed, IllFormed}
+use Rattle.script_bytes.specs.declared.form.Form.TheVariants.{Digits, Nothing, Typed}
 use Rattle.script_bytes.specs.Hex.{answer_digits}
 use Rattle.script_bytes.specs.Block.{form_of, block_bytes}
 use Rattle.script_bytes.specs.Open.{computing}
 
 -- "upper-case hex digits, an empty word" have no form
 forms-computed : AllHold (λ (w : String). form_of (bytes w))
-    ("00" gives Digits
-    ∷ "0aff" gives Digits
-    ∷ "0" gives IllFormed
-    ∷ "0a1" gives IllFormed
-    ∷ "0A" gives IllFormed
-    ∷ "0g" gives IllFormed
-    ∷ "/0" gives IllFormed
-    ∷ "0:" gives IllFormed
-    ∷ "`0" gives IllFormed
-    ∷ "-" gives Nothing
-    ∷ "--" gives IllFormed
-    ∷ "-0" gives IllFormed
-    ∷ "=" gives Typed
-    ∷ "==" gives Typed
-    ∷ "=ab;" gives Typed
-    ∷ "" gives IllFormed
+    ("00" gives (Some Digits)
+    ∷ "0aff" gives (Some Digits)
+    ∷ "0" gives None
+    ∷ "0a1" gives None
+    ∷ "0A" gives None
+    ∷ "0g" gives None
+    ∷ "/0" gives None
+    ∷ "0:" gives None
+    ∷ "`0" gives None
+    ∷ "-" gives (Some Nothing)
+    ∷ "--" gives None
+    ∷ "-0" gives None
+    ∷ "=" gives (Some Typed)
+    ∷ "==" gives (Some Typed)
+    ∷ "=ab;" gives (Some Typed)
+    ∷ "" gives None
     ∷ [])
 unfolding computing
 forms-computed = refl

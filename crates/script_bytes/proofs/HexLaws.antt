@@ -1,44 +1,42 @@
 -- Digits and the bytes that they stand for, at a position, for each test and store that the code makes there. Assumes nothing.
 use Prim.Native.Nat.{ℕ, zero, suc, ◌+◌, ◌*◌, ◌/◌, ◌%◌, ◌≤◌, ◌<◌}
-use mathlib.Core.Path.{◌≡◌, refl, sym, ◌∙◌}
-use mathlib.Core.Bool.{Bool, true, false}
+use mathlib.Core.Path.{◌≡◌, refl, sym, ap, ◌∙◌}
+use mathlib.Core.Bool.{Bool, true, false, ◌&&◌}
 use mathlib.Core.List.{List, [], ◌∷◌, ◌++◌}
 use native.Mathlib.Numerals.{add-one}
 use native.Mathlib.Omega.{arith}
 use lib.ListN.{length, get_or, drop, drop_of_length-le, set}
 use lib.Seq.{drop-cons}
-use lib.Dec.{eqb}
-use borrow.Author.Tests.{eq-eqb, ne_eqb, lt-ltb, le-ltb, ltb-true}
-use Rattle.base.proofs.Tests.{and_left, and_right, bool_cases, clash, cond-false, cond-true}
+use lib.Dec.{eqb, ltb}
+use borrow.Author.Tests.{eq-eqb, ne_eqb, ltb-true}
+use Rattle.std.specs.List.{list_all}
+use Rattle.std.specs.Prelude.{Option, is_some}
+use Rattle.base.proofs.Tests.{and_left, and_right, bool_cases, clash, cond_cases, cond-false, cond-true}
 use Rattle.text.specs.Meaning.{each_byte}
 use Rattle.text.specs.Put.{Put}
 use Rattle.text.proofs.Putting.{Putting, putting-room, putting-on, bytes_on, bytes-done}
-use Rattle.script_bytes.specs.Hex.{digit_value, digit_byte, is_digit, is_digits, digits_bytes, byte_digits, bytes_digits}
+use Rattle.script_bytes.specs.Hex.{digit_value, digit_in, digit_byte, is_digit, is_digits, digits_bytes, byte_digits, bytes_digits}
 
 -- ---- whether a word is digits
 
+-- the code's test of a byte
+pub told-digit : (b : ℕ) → is_some (digit_in b) ≡ is_digit b
+unfolding is_digit
+told-digit b = cond_cases (λ (x : Option ℕ). is_some x ≡ ltb (digit_value b) 16) (ltb (digit_value b) 16) _ _ (λ t. sym t) (λ f. sym f)
+
+each-is-all : (test : ℕ → Bool) (l : List ℕ) → list_all test l ≡ each_byte test l
+unfolding each_byte
+each-is-all test [] = refl
+each-is-all test (b ∷ l) = ap (λ rest. test b && rest) (each-is-all test l)
+
 module _ (s : List ℕ) where
-  pub digits-odd : length s % 2 ≡ 1 → false ≡ is_digits s
+  pub digits-odd : (length s % 2 ≡ 0 → ⊥) → eqb (length s % 2) 0 ≡ is_digits s
   unfolding is_digits
-  digits-odd h = rw (eq-eqb _ _ h)
+  digits-odd h = let o : length s % 2 ≡ 1 = omega arith in rw (eq-eqb _ _ o, ne_eqb _ _ h)
 
-  pub digits-begin : (length s % 2 ≡ 1 → ⊥) → is_digits s ≡ each_byte is_digit (drop 0 s)
+  pub digits-even : (r : Bool) → (length s % 2 ≡ 1 → ⊥) → r ≡ list_all is_digit s → r ≡ is_digits s
   unfolding is_digits
-  digits-begin h = rw (ne_eqb _ _ h)
-
-  module _ (p : ℕ) (x : Bool) (q : x ≡ each_byte is_digit (drop p s)) where
-    pub digits-over : length s ≤ p → true ≡ x
-    unfolding each_byte
-    digits-over h = rw (q, drop_of_length-le s h)
-
-    module _ (d : ℕ) (h : p < length s) (e : d ≡ digit_value (get_or s p 0)) where
-      pub digits-other : 16 ≤ d → false ≡ x
-      unfolding each_byte is_digit
-      digits-other o = rw (q, drop-cons s p 0 h, ← e, le-ltb _ _ o)
-
-      pub digits-on : d < 16 → x ≡ each_byte is_digit (drop (p + 1) s)
-      unfolding each_byte is_digit
-      digits-on o = q ∙ rw (drop-cons s p 0 h, ← e, lt-ltb _ _ o, add-one)
+  digits-even r h e = rw (ne_eqb _ _ h) (e ∙ each-is-all is_digit s)
 
 -- ---- the bytes of digits
 
@@ -93,9 +91,11 @@ digits-byte-put old from w new i b h e p =
     let g : get_or (digits_bytes w) i 0 ≡ b = digits-byte-at w i h ∙ sym e in
     rw g at (bytes_on old from (digits_bytes w) new i (omega (arith, length-digits-bytes w)) p)
 
-pub digits-bytes-done : (old : List ℕ) (from : ℕ) (w new : List ℕ) (i : ℕ) → length w / 2 ≤ i
-    → Putting old from (digits_bytes w) new (from + i) (drop i (digits_bytes w)) → Put old from (digits_bytes w) (from + i) new
-digits-bytes-done old from w new i h p = bytes-done old from (digits_bytes w) new i (omega (arith, length-digits-bytes w)) p
+pub digits-bytes-done : (old : List ℕ) (from : ℕ) (w new : List ℕ) (i : ℕ) → length w / 2 ≤ i → i ≤ length w / 2
+    → Putting old from (digits_bytes w) new (from + i) (drop i (digits_bytes w)) → Put old from (digits_bytes w) (from + length w / 2) new
+digits-bytes-done old from w new i h o p =
+    let e : i ≡ length w / 2 = omega arith in
+    rw e at (bytes-done old from (digits_bytes w) new i (omega (arith, length-digits-bytes w)) p)
 
 -- ---- digits put: two for each byte
 

@@ -7,6 +7,7 @@ use native.Mathlib.Omega.{arith}
 use lib.Dec.{ltb}
 use lib.ListN.{length}
 use borrow.Author.Tests.{lt-ltb, le-ltb, le-leb, lt-leb, ne_eqb, ltb-true, ltb-false}
+use Rattle.std.specs.Prelude.{Some}
 use Rattle.base.proofs.Tests.{and_left, and_right, bool_cases}
 use Rattle.text.specs.Meaning.{each_byte}
 use Rattle.text.specs.Word.{same_bytes}
@@ -92,7 +93,7 @@ module _ (b : ℕ) (l : List ℕ) (h : each_byte is_byte (b ∷ l) ≡ true) whe
   unfolding each_byte is_byte
   high = let o : b < 256 = ltb-true b 256 (and_left (ltb b 256) (each_byte is_byte l) h) in omega arith
 
-  pub answer-form : form_of (answer_digits (b ∷ l)) ≡ Digits
+  pub answer-form : form_of (answer_digits (b ∷ l)) ≡ Some Digits
   unfolding form_of answer_digits bytes_digits same_bytes
   answer-form =
       rw (ne_eqb (digit_byte (b / 16)) equals (no-mark (b / 16) high equals equals-marks), ne_eqb (digit_byte (b / 16)) minus (no-mark (b / 16) high minus minus-marks))

@@ -13,24 +13,22 @@ pub enum Form {
     Nothing,
     // `=` and text
     Typed,
-    IllFormed,
 }
 
-// Finds the form of a word.
-pub fn form_of(word: &[u8]) -> Form
+// Returns the form of a word, or None where it has none.
+#[tactic(auto, using(std::proofs::lemmas::Bool::Decides::nat_tests), unfolding(crate::specs::Block::form_of))]
+pub fn form_of(word: &[u8]) -> Option<Form>
     ensures { result ≡ form_of word.now }
 {
-    if word.len() < 1 {
-        return Form::IllFormed;
+    if word.is_empty() {
+        None
+    } else if word[0] == b'=' {
+        Some(Form::Typed)
+    } else if is_word(word, b"-") {
+        Some(Form::Nothing)
+    } else if is_digits(word) {
+        Some(Form::Digits)
+    } else {
+        None
     }
-    if word[0] == b'=' {
-        return Form::Typed;
-    }
-    if is_word(word, b"-") {
-        return Form::Nothing;
-    }
-    if is_digits(word) {
-        return Form::Digits;
-    }
-    Form::IllFormed
 }

@@ -1,50 +1,33 @@
 // Bytes as two digits of `0-9a-f` each.
 ghost use Rattle.std.specs.Prelude.{◌≡◌, true, ◌+◌, ◌*◌, ◌<◌, ◌≤◌, length};
 ghost use Rattle.text.specs.Put.{Put};
-ghost use Rattle.script_bytes.specs.Hex.{digit_value, digit_byte, is_digits, digits_bytes, byte_digits, bytes_digits};
+ghost use Rattle.script_bytes.specs.Hex.{digit_value, digit_in, digit_byte, is_digits, digits_bytes, byte_digits, bytes_digits};
 
-// Gives the value of a digit, or 16 for any other byte.
-fn digit_value(b: u8) -> u8
-    ensures { result ≡ digit_value b }
+// Returns the value of a digit, or None for any other byte.
+#[tactic(auto, using(std::proofs::lemmas::Bool::Decides::nat_tests), unfolding(crate::specs::Hex::digit_value))]
+fn digit_value(b: u8) -> Option<u8>
+    ensures { result ≡ digit_in b }
 {
-    if b < b'0' {
-        return 16;
+    match b {
+        b'0'..=b'9' => Some(b - 48),
+        b'a'..=b'f' => Some(b - 87),
+        _ => None,
     }
-    if b <= b'9' {
-        return b - 48;
-    }
-    if b < b'a' {
-        return 16;
-    }
-    if b <= b'f' {
-        return b - 87;
-    }
-    16
 }
 
-// Says whether a word is an even number of digits.
+// Returns true if a word is an even number of digits.
 pub fn is_digits(word: &[u8]) -> bool
     ensures { result ≡ is_digits word.now }
 {
-    if word.len() % 2 == 1 {
-        return false;
-    }
-    let mut i = 0;
-    while i < word.len() {
-        if 16 <= digit_value(word[i]) {
-            return false;
-        }
-        i += 1;
-    }
-    true
+    word.len() % 2 == 0 && word.iter().all(|b| digit_value(*b).is_some())
 }
 
-// Gives the byte of two digits. Precondition: both are digits; `put_digits_bytes` requires digits alone.
+// Returns the byte of two digits. Precondition: both are digits; `put_digits_bytes` requires digits alone.
 fn digits_byte(high: u8, low: u8) -> u8
     requires { (digit_value high < 16) × (digit_value low < 16) }
     ensures { result ≡ 16 * digit_value high + digit_value low }
 {
-    16 * digit_value(high) + digit_value(low)
+    16 * digit_value(high).unwrap() + digit_value(low).unwrap()
 }
 
 // Puts the bytes that digits stand for. Precondition: the word is an even number of digits, which `put_block_bytes` has tested, and the
@@ -54,23 +37,19 @@ pub fn put_digits_bytes(buf: &mut [u8], at: usize, word: &[u8]) -> usize
     ensures { Put buf.old at (digits_bytes word.now) result buf.new }
 {
     let count = word.len() / 2;
-    let mut i = 0;
-    while i < count {
+    for i in 0..count {
         buf[at + i] = digits_byte(word[2 * i], word[2 * i + 1]);
-        i += 1;
     }
-    at + i
+    at + count
 }
 
-// Gives the digit of a value. Precondition: the value is below 16; `put_byte_digits` gives such values.
+// Returns the digit of a value. Precondition: the value is below 16; `put_byte_digits` gives such values.
+#[tactic(auto, using(std::proofs::lemmas::Bool::Decides::nat_tests), unfolding(crate::specs::Hex::digit_byte))]
 fn digit_byte(value: u8) -> u8
     requires { value < 16 }
     ensures { result ≡ digit_byte value }
 {
-    if value < 10 {
-        return 48 + value;
-    }
-    87 + value
+    if value < 10 { 48 + value } else { 87 + value }
 }
 
 // Puts the two digits of a byte. Precondition: they fit the buffer; `put_bytes_digits` requires it.
@@ -89,10 +68,8 @@ pub fn put_bytes_digits(buf: &mut [u8], at: usize, part: &[u8]) -> usize
     ensures { Put buf.old at (bytes_digits part.now) result buf.new }
 {
     let mut next = at;
-    let mut i = 0;
-    while i < part.len() {
-        next = put_byte_digits(buf, next, part[i]);
-        i += 1;
+    for b in part {
+        next = put_byte_digits(buf, next, *b);
     }
     next
 }

@@ -13,11 +13,11 @@ use Rattle.model.specs.Calls.{Call, transfer_data}
 use Rattle.model.specs.Layers.{EventOutcome}
 use Rattle.state.specs.declared.state.State.{State}
 use Rattle.state.specs.declared.answer.Answer.TheVariants.{Done}
+use Rattle.state.specs.declared.answer.Answer.{Answer}
 use Rattle.state.specs.declared.answer.Answered.{Answered}
 use Rattle.state.specs.Outcome.{Outcome, outcome}
 use Rattle.load.specs.Exact.{load}
 use Rattle.manager.specs.Accepts.{exact_step}
-use Rattle.four_state.specs.declared.answer.OldAnswered.{OldAnswered}
 use Rattle.four_state.specs.declared.call.OldCall.{OldCall}
 use Rattle.four_state.specs.Exact.{old_outcome, exact_old_step}
 use Rattle.script_bytes.specs.Block.{block_bytes}
@@ -35,7 +35,7 @@ use Rattle.script_calls.proofs.LentLaws.{take-lent, drop-lent, block-taken}
 abbrev behind_call : ℕ → Store → Outcome → LineOutcome
 behind_call n rest o = line_outcome (answered_with o.answered n) (o.store ++ rest)
 
-pub call_played : (call : Call) (k : Kept) (l : Store) (n : ℕ) (made : Answered) (x : Store) (r : Played)
+pub call_played : (call : Call) (k : Kept) (l : Store) (n : ℕ) (made : Answered Answer) (x : Store) (r : Played)
     → n ≡ lent_count k.store_length (length l) → outcome made x ≡ exact_step k.state (take n l) call
     → r ≡ answered_with made k.store_length → line_outcome r (x ++ drop n l) ≡ calling call k l
 unfolding calling
@@ -52,7 +52,7 @@ call_played call k l n made x r count same e =
 abbrev behind_old_call : ℕ → Store → EventOutcome State ℕ → LineOutcome
 behind_old_call n rest o = line_outcome (old_answered_with o.answer o.state n) (o.store ++ rest)
 
-pub old-played : (call : OldCall) (k : Kept) (l : Store) (n : ℕ) (made : OldAnswered) (r : Played)
+pub old-played : (call : OldCall) (k : Kept) (l : Store) (n : ℕ) (made : Answered ℕ) (r : Played)
     → n ≡ lent_count k.store_length (length l) → old_outcome made (take n l) ≡ exact_old_step k.state (take n l) call
     → r ≡ old_answered_with made.answer made.state k.store_length → line_outcome r l ≡ calling_old call k l
 unfolding calling_old
@@ -66,7 +66,7 @@ old-played call k l n made r count same e =
 
 -- ---- Load
 
-pub load-played : (first size : ℕ) (list : List ℕ) (k : Kept) (bytes : Store) (made : Answered) (x : Store) (after : ℕ) (r : Played)
+pub load-played : (first size : ℕ) (list : List ℕ) (k : Kept) (bytes : Store) (made : Answered Answer) (x : Store) (after : ℕ) (r : Played)
     → size ≤ length bytes → outcome made x ≡ load k.state list first (take size bytes)
     → after ≡ length_after made.answer k.store_length size → r ≡ answered_with made after
     → line_outcome r (x ++ drop size bytes) ≡ loading first size list k bytes

@@ -1,7 +1,8 @@
 -- A line by what it reads as: x is the line, w the word of its bytes. Assumes nothing.
 use Prim.Native.Nat.{ℕ, ◌≤◌}
-use mathlib.Core.Path.{◌≡◌, ap, ◌∙◌}
+use mathlib.Core.Path.{◌≡◌, ◌∙◌}
 use mathlib.Core.List.{List, []}
+use mathlib.Core.Logic.{◌⊎◌, inl, inr}
 use native.Mathlib.Omega.{arith}
 use lib.ListN.{length}
 use Rattle.model.specs.State.{Store}
@@ -16,8 +17,8 @@ use Rattle.script.specs.declared.place.Place.{Place}
 use Rattle.script.specs.Place.{part_at}
 use Rattle.script.proofs.PlaceLaws.{part-most}
 use Rattle.script_calls.specs.declared.kept.Kept.{Kept}
-use Rattle.script_calls.specs.declared.kept.Played.{Played}
-use Rattle.script_calls.specs.Kept.{LineOutcome, line_outcome}
+use Rattle.script_calls.specs.declared.kept.LineAnswer.TheVariants as line-answer
+use Rattle.script_calls.specs.Kept.{nothing_changed, LineOutcome, line_outcome}
 use Rattle.script_calls.specs.Line.{calling, calling_old, loading, poking, line_gives}
 
 -- a buffer that is as long as a line has room for each of its words
@@ -48,10 +49,35 @@ module _ (text : List ℕ) (k : Kept) (l : Store) (x : ScriptLine) (o : LineOutc
   unfolding line_gives
   poke-line at p w is e same = same ∙ rw (e, is)
 
--- a line that changes nothing
-pub other-line : (text : List ℕ) (k : Kept) (l : Store) (x case : ScriptLine) (r : Played) → x ≡ case
-    → line_outcome r l ≡ line_gives text case k l → line_outcome r l ≡ line_gives text x k l
-other-line text k l x case r is same = rw is same
+-- the lines that change nothing: x is one of them
+module _ (text : List ℕ) (k : Kept) (l : Store) (x : ScriptLine) where
+  pub shown-line : (x ≡ line.OldStatus)
+      ⊎ (((n : ℕ) × (x ≡ line.Packages n))
+      ⊎ (((n : ℕ) × (x ≡ line.Clusters n))
+      ⊎ (((n : ℕ) × (x ≡ line.Changes n))
+      ⊎ (((n : ℕ) × (x ≡ line.Waves n))
+      ⊎ (((n : ℕ) × (x ≡ line.Payload n))
+      ⊎ (((n : ℕ) × (x ≡ line.Check n))
+      ⊎ ((x ≡ line.Progress)
+      ⊎ ((x ≡ line.State)
+      ⊎ ((x ≡ line.Store)
+      ⊎ ((x ≡ line.Remark)))))))))))
+      → line_outcome (nothing_changed line-answer.Shown k) l ≡ line_gives text x k l
+  unfolding line_gives
+  shown-line (inl e) = rw e
+  shown-line (inr (inl (n, e))) = rw e
+  shown-line (inr (inr (inl (n, e)))) = rw e
+  shown-line (inr (inr (inr (inl (n, e))))) = rw e
+  shown-line (inr (inr (inr (inr (inl (n, e)))))) = rw e
+  shown-line (inr (inr (inr (inr (inr (inl (n, e))))))) = rw e
+  shown-line (inr (inr (inr (inr (inr (inr (inl (n, e)))))))) = rw e
+  shown-line (inr (inr (inr (inr (inr (inr (inr (inl e)))))))) = rw e
+  shown-line (inr (inr (inr (inr (inr (inr (inr (inr (inl e))))))))) = rw e
+  shown-line (inr (inr (inr (inr (inr (inr (inr (inr (inr (inl e)))))))))) = rw e
+  shown-line (inr (inr (inr (inr (inr (inr (inr (inr (inr (inr e)))))))))) = rw e
 
-pub same-played : (r p : Played) (l : Store) → r ≡ p → line_outcome r l ≡ line_outcome p l
-same-played r p l e = ap (λ (q : Played). line_outcome q l) e
+-- a line that is not known
+pub unknown-line : (text : List ℕ) (k : Kept) (l : Store) (x : ScriptLine) → x ≡ line.Unknown
+    → line_outcome (nothing_changed line-answer.Unknown k) l ≡ line_gives text x k l
+unfolding line_gives
+unknown-line text k l x is = rw is

@@ -2,6 +2,7 @@
 use Rattle.std.specs.Prelude.{ℕ, ◌≡◌, false}
 use Rattle.model.specs.State.{Store}
 use Rattle.model.specs.Sound.{sound_for}
+use Rattle.state.specs.declared.answer.Answer.{Answer}
 use Rattle.state.specs.declared.answer.Answered.{Answered}
 use Rattle.state.specs.declared.state.State.{State}
 use Rattle.state.specs.View.{view_state}
@@ -23,7 +24,7 @@ abbrev pub nothing_changed : LineAnswer → Kept → Played
 nothing_changed answer k = record { answer = answer; kept = k }
 
 -- the answer of a call and its state, with so many bytes lent
-abbrev pub answered_with : Answered → ℕ → Played
+abbrev pub answered_with : Answered Answer → ℕ → Played
 answered_with made n = record { answer = line-answer.Answer made.answer; kept = keeps made.state n }
 
 -- the same of an old call

@@ -4,7 +4,7 @@ ghost use Rattle.request.specs.Call.{call_of};
 ghost use Rattle.script_calls.specs.Kept.{line_outcome};
 ghost use Rattle.script_calls.specs.Line.{calling, calling_data};
 
-use crate::kept::{Kept, Played, answered_with};
+use crate::kept::{Kept, LineAnswer, Played};
 use crate::lent::lent;
 use manager::call;
 use request::Request;
@@ -14,11 +14,15 @@ use script_bytes::block::put_block_bytes;
 pub fn play_call(kept: Kept, bytes: &mut [u8], request: Request, block: &[u8]) -> Played
     ensures { line_outcome result bytes.new ≡ calling (call_of request block.now) kept bytes.old }
 {
-    let s = kept.state;
-    let store_length = kept.store_length;
-    let count = lent(store_length, bytes.len());
-    let made = call(s, &mut bytes[..count], request, block);
-    answered_with(made, store_length)
+    let count = lent(kept.store_length, bytes.len());
+    let made = call(kept.state, &mut bytes[..count], request, block);
+    Played {
+        answer: LineAnswer::Answer(made.answer),
+        kept: Kept {
+            state: made.state,
+            ..kept
+        },
+    }
 }
 
 // Makes TransferData with the bytes that a word stands for. Precondition: the buffer is at least as long as the word; `play` requires

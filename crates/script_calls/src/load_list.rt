@@ -4,18 +4,18 @@ ghost use Rattle.script_bytes.specs.Block.{block_bytes};
 ghost use Rattle.script_calls.specs.Kept.{line_outcome};
 ghost use Rattle.script_calls.specs.Line.{length_after, loading};
 
-use crate::kept::{Kept, LineAnswer, Played, answered_with, nothing_changed};
+use crate::kept::{Kept, LineAnswer, Played};
 use script_bytes::block::put_block_bytes;
-use state::answer::{Answer, is_refusal};
+use state::answer::Answer;
 
 // Says how many bytes are lent after Load: as many as the line says, or as before.
 fn length_after(answer: Answer, before: usize, size: usize) -> usize
     ensures { result ≡ length_after answer before size }
 {
-    if is_refusal(answer) {
-        return before;
+    match answer {
+        Answer::Refused(_) => before,
+        _ => size,
     }
-    size
 }
 
 // Makes Load with a list on the first of the program's bytes, so many as the line says.
@@ -24,13 +24,19 @@ fn play_list(kept: Kept, bytes: &mut [u8], first: u32, size: u32, list: &[u8]) -
 {
     let count = size as usize;
     if bytes.len() < count {
-        return nothing_changed(LineAnswer::Unknown, kept);
+        return Played {
+            answer: LineAnswer::Unknown,
+            kept,
+        };
     }
-    let s = kept.state;
-    let before = kept.store_length;
-    let made = load::load(s, list, first, &mut bytes[..count]);
-    let answer = made.answer;
-    answered_with(made, length_after(answer, before, count))
+    let made = load::load(kept.state, list, first, &mut bytes[..count]);
+    Played {
+        answer: LineAnswer::Answer(made.answer),
+        kept: Kept {
+            state: made.state,
+            store_length: length_after(made.answer, kept.store_length, count),
+        },
+    }
 }
 
 // Does the same with the list that a word stands for. Precondition: the buffer is at least as long as the word; `play` requires one

@@ -3,7 +3,7 @@ ghost use Rattle.std.specs.Prelude.{◌≡◌};
 ghost use Rattle.script_calls.specs.Kept.{line_outcome};
 ghost use Rattle.script_calls.specs.Line.{calling_old};
 
-use crate::kept::{Kept, Played, old_answered_with};
+use crate::kept::{Kept, LineAnswer, Played};
 use crate::lent::lent;
 use four_state::call::{OldCall, old_call};
 
@@ -11,9 +11,13 @@ use four_state::call::{OldCall, old_call};
 pub fn play_old(kept: Kept, bytes: &[u8], call: OldCall) -> Played
     ensures { line_outcome result bytes.now ≡ calling_old call kept bytes.now }
 {
-    let s = kept.state;
-    let store_length = kept.store_length;
-    let count = lent(store_length, bytes.len());
-    let made = old_call(s, &bytes[..count], call);
-    old_answered_with(made, store_length)
+    let count = lent(kept.store_length, bytes.len());
+    let made = old_call(kept.state, &bytes[..count], call);
+    Played {
+        answer: LineAnswer::Old(made.answer),
+        kept: Kept {
+            state: made.state,
+            ..kept
+        },
+    }
 }

@@ -4,7 +4,7 @@ ghost use Rattle.script_calls.specs.Kept.{line_outcome};
 ghost use Rattle.script_calls.specs.Line.{line_gives};
 
 use crate::call::{play_call, play_data};
-use crate::kept::{Kept, LineAnswer, Played, nothing_changed};
+use crate::kept::{Kept, LineAnswer, Played};
 use crate::load_list::play_load;
 use crate::old::play_old;
 use crate::poke::play_poke;
@@ -42,18 +42,24 @@ pub fn play(
         ),
         ScriptLine::Call(request) => play_call(kept, bytes, request, &buffer[..0]),
         ScriptLine::Old(call) => play_old(kept, bytes, call),
-        ScriptLine::OldStatus => nothing_changed(LineAnswer::Shown, kept),
-        ScriptLine::Packages { room: _ } => nothing_changed(LineAnswer::Shown, kept),
-        ScriptLine::Clusters { room: _ } => nothing_changed(LineAnswer::Shown, kept),
-        ScriptLine::Changes { room: _ } => nothing_changed(LineAnswer::Shown, kept),
-        ScriptLine::Waves { room: _ } => nothing_changed(LineAnswer::Shown, kept),
-        ScriptLine::Payload { id: _ } => nothing_changed(LineAnswer::Shown, kept),
-        ScriptLine::Check { id: _ } => nothing_changed(LineAnswer::Shown, kept),
-        ScriptLine::Progress => nothing_changed(LineAnswer::Shown, kept),
-        ScriptLine::State => nothing_changed(LineAnswer::Shown, kept),
-        ScriptLine::Store => nothing_changed(LineAnswer::Shown, kept),
         ScriptLine::Poke { at, bytes: word } => play_poke(kept, bytes, at, part_at(text, word)),
-        ScriptLine::Remark => nothing_changed(LineAnswer::Shown, kept),
-        ScriptLine::Unknown => nothing_changed(LineAnswer::Unknown, kept),
+        ScriptLine::OldStatus
+        | ScriptLine::Packages { .. }
+        | ScriptLine::Clusters { .. }
+        | ScriptLine::Changes { .. }
+        | ScriptLine::Waves { .. }
+        | ScriptLine::Payload { .. }
+        | ScriptLine::Check { .. }
+        | ScriptLine::Progress
+        | ScriptLine::State
+        | ScriptLine::Store
+        | ScriptLine::Remark => Played {
+            answer: LineAnswer::Shown,
+            kept,
+        },
+        ScriptLine::Unknown => Played {
+            answer: LineAnswer::Unknown,
+            kept,
+        },
     }
 }

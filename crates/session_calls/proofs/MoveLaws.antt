@@ -4,7 +4,6 @@ use Prim.Native.Nat.{ℕ}
 use mathlib.Core.Path.{◌≡◌, refl, sym, ap, ◌∙◌}
 use mathlib.Core.Bool.{Bool, true, false, not, cond, ◌&&◌}
 use lib.Dec.{eqb}
-use borrow.Author.Tests.{eq-eqb, ne_eqb}
 use Rattle.base.specs.Refusals.{first_refusal}
 use Rattle.base.proofs.Ladder.{both-stop}
 use Rattle.model.specs.State as model
@@ -15,6 +14,7 @@ use Rattle.state.specs.declared.phase.Phase.{Phase}
 use Rattle.state.specs.declared.phase.Phase.TheVariants.{Activating, RollingBack, CleaningUp}
 use Rattle.state.specs.declared.phase.CleanUpOrigin.TheVariants as clean_up
 use Rattle.state.specs.declared.state.State.{State}
+use Rattle.state.specs.declared.answer.Answer.{Answer}
 use Rattle.state.specs.declared.answer.Answered.{Answered}
 use Rattle.state.specs.declared.answer.Answer.TheVariants.{Done}
 use Rattle.state.specs.View.{view_rollback_origin, view_clean_up_origin, view_phase, view_state}
@@ -33,11 +33,11 @@ module _ (s : State) (next : Phase) (number : ℕ) (b : Bool) (told : b ≡ allo
   free_of : (call : Call) (store : Store) → MovesAlone s store call number → eqb (call_number call) 4 && is_processing (view_phase s.phase) ≡ false
   free_of call store m = both-stop (eqb (call_number call) 4) _ m.free
 
-  pub move-refused : (r : Answered) → not b ≡ true → r ≡ refused_by s 3
+  pub move-refused : (r : Answered Answer) → not b ≡ true → r ≡ refused_by s 3
       → (call : Call) (store : Store) → MovesAlone s store call number → outcome r store ≡ called_on_sound s store call (moved next s store)
   move-refused r e f call store m = refuse-unpermitted s store call (moved next s store) b (free_of call store m) (told_of call store m) r e f
 
-  pub move-accepted : (r : Answered) (after : State) → not b ≡ false → after ≡ in_phase next s → r ≡ answered Done after
+  pub move-accepted : (r : Answered Answer) (after : State) → not b ≡ false → after ≡ in_phase next s → r ≡ answered Done after
       → (call : Call) (store : Store) → MovesAlone s store call number → outcome r store ≡ called_on_sound s store call (moved next s store)
   unfolding first_refusal
   move-accepted r after e f g call store m =
@@ -50,13 +50,6 @@ module _ (s : State) (next : Phase) (number : ℕ) (b : Bool) (told : b ≡ allo
 pub move-known : (s : State) (store : Store) (call : Call) (next known : Phase) (o : Outcome)
     → o ≡ called_on_sound s store call (moved next s store) → next ≡ known → o ≡ called_on_sound s store call (moved known s store)
 move-known s store call next known o given same = given ∙ ap (λ (phase : Phase). called_on_sound s store call (moved phase s store)) same
-
--- the number of the manager's state, which a call told, is the one tested for, or is not
-pub told-equal : (r n k : ℕ) → r ≡ n → r ≡ k → eqb n k ≡ true
-told-equal r n k e f = eq-eqb n k (sym e ∙ f)
-
-pub told-unequal : (r n k : ℕ) → r ≡ n → (r ≡ k → ⊥) → eqb n k ≡ false
-told-unequal r n k e f = ne_eqb n k λ h. f (e ∙ h)
 
 -- ---- what is given is the model's
 

@@ -11,6 +11,7 @@ use Rattle.state.specs.declared.phase.Phase.{Phase}
 use Rattle.state.specs.declared.phase.Phase.TheVariants.{Activating, RollingBack, CleaningUp}
 use Rattle.state.specs.declared.state.State.{State}
 use Rattle.state.specs.declared.answer.Answer.TheVariants.{Done}
+use Rattle.state.specs.declared.answer.Answer.{Answer}
 use Rattle.state.specs.declared.answer.Answered.{Answered}
 use Rattle.state.specs.View.{view_phase, view_state}
 use Rattle.state.specs.Exact.{in_phase}
@@ -83,6 +84,6 @@ pub record MovesAlone (s : State) (store : Store) (call : Call) (number : ℕ) :
   pub own : own_refusals (view_state s) store call ≡ []
 
 -- each of these calls with that number is refused, or moves the manager's state to the next one
-abbrev pub MovesTo : Phase → State → ℕ → Answered → Type 0
+abbrev pub MovesTo : Phase → State → ℕ → Answered Answer → Type 0
 MovesTo next s number r =
     (call : Call) (store : Store) → MovesAlone s store call number → outcome r store ≡ called_on_sound s store call (moved next s store)

@@ -8,16 +8,16 @@ ghost use Rattle.state.specs.Outcome.{outcome, view_answered, SoundIfAccepted};
 ghost use Rattle.session_calls.specs.Moved.{activate_called, activate_called_on_sound};
 
 use crate::moves::move_to;
-use refusal::BAD_STATE;
+use refusal::Refusal;
 use soundness::sound::sound;
-use state::answer::{Answered, refused};
+use state::answer::{Answer, Answered, refuse};
 use state::permissions::ACTIVATE;
 use state::phase::Phase;
 use state::state::State;
 
 // Makes the call after refusal 1. Precondition: the state is sound for the store; `activate`, `manager::call` and the old Activate check
 // it.
-pub fn activate_on_sound(s: State, store: &[u8]) -> Answered
+pub fn activate_on_sound(s: State, store: &[u8]) -> Answered<Answer>
     requires { sound_for (view_state s) (length store.now) ≡ true }
     ensures { outcome result store.now ≡ activate_called_on_sound s store.now }
 {
@@ -25,13 +25,13 @@ pub fn activate_on_sound(s: State, store: &[u8]) -> Answered
 }
 
 // Activate: moves Ready to Activating.
-pub fn activate(s: State, store: &[u8]) -> Answered
+pub fn activate(s: State, store: &[u8]) -> Answered<Answer>
     ensures meaning { view_answered result store.now ≡ step (view_state s) store.now activate }
     ensures exact { outcome result store.now ≡ activate_called s store.now }
     ensures sound { SoundIfAccepted (outcome result store.now) }
 {
     if !sound(s, store.len()) {
-        return refused(s, BAD_STATE);
+        return refuse(s, Refusal::BadState);
     }
     activate_on_sound(s, store)
 }

@@ -8,40 +8,40 @@ ghost use Rattle.state.specs.Outcome.{outcome, view_answered, SoundIfAccepted};
 ghost use Rattle.session_calls.specs.Moved.{finish_origin, finish_called, finish_called_on_sound};
 
 use crate::moves::move_to;
-use refusal::BAD_STATE;
+use refusal::Refusal;
 use soundness::sound::sound;
-use state::answer::{Answered, refused};
+use state::answer::{Answer, Answered, refuse};
 use state::permissions::FINISH;
-use state::phase::{ACTIVATED, CleanUpOrigin, Phase, phase_number};
+use state::phase::{CleanUpOrigin, Phase};
 use state::state::State;
 
 // Says where CleaningUp comes from: of the two states that allow Finish, Activated or else RolledBack.
+#[tactic(auto, unfolding(crate::specs::Moved::finish_origin))]
 fn finish_origin(phase: Phase) -> CleanUpOrigin
     ensures { result ≡ finish_origin phase }
 {
-    if phase_number(phase) == ACTIVATED {
-        return CleanUpOrigin::Activated;
+    match phase {
+        Phase::Activated => CleanUpOrigin::Activated,
+        _ => CleanUpOrigin::RolledBack,
     }
-    CleanUpOrigin::RolledBack
 }
 
 // Makes the call after refusal 1. Precondition: the state is sound for the store; `finish` and `manager::call` check it.
-pub fn finish_on_sound(s: State, store: &[u8]) -> Answered
+pub fn finish_on_sound(s: State, store: &[u8]) -> Answered<Answer>
     requires { sound_for (view_state s) (length store.now) ≡ true }
     ensures { outcome result store.now ≡ finish_called_on_sound s store.now }
 {
-    let phase = s.phase;
-    move_to(s, FINISH, Phase::CleaningUp(finish_origin(phase)))
+    move_to(s, FINISH, Phase::CleaningUp(finish_origin(s.phase)))
 }
 
 // Finish: moves Activated or RolledBack to CleaningUp, which keeps where it came from.
-pub fn finish(s: State, store: &[u8]) -> Answered
+pub fn finish(s: State, store: &[u8]) -> Answered<Answer>
     ensures meaning { view_answered result store.now ≡ step (view_state s) store.now finish }
     ensures exact { outcome result store.now ≡ finish_called s store.now }
     ensures sound { SoundIfAccepted (outcome result store.now) }
 {
     if !sound(s, store.len()) {
-        return refused(s, BAD_STATE);
+        return refuse(s, Refusal::BadState);
     }
     finish_on_sound(s, store)
 }

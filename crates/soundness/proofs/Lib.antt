@@ -9,3 +9,4 @@ pub mod KeptParts
 pub mod ProcessingSize
 pub mod Whole
 pub mod SoundSession
+pub mod Along

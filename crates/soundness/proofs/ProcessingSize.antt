@@ -5,9 +5,9 @@ use mathlib.Core.Bool.{true}
 use mathlib.Core.List.{List}
 use native.Mathlib.Omega.{arith}
 use lib.ListN.{length, get_or}
-use Rattle.place_in_list.specs.declared.Found.{Found}
-use Rattle.place_in_list.specs.declared.Found.TheVariants.{At, Nothing}
-use Rattle.place_in_list.specs.Place.{first_place, place_or}
+use Rattle.std.specs.Prelude.{None, Some, unwrap_or}
+use Rattle.std.specs.List.{position_from}
+use Rattle.place_in_list.specs.Place.{Found}
 use Rattle.place_in_list.proofs.Placed.{holds-at-place, holds-where-none, placed-in}
 use Rattle.model.specs.State.{Package}
 use Rattle.model.specs.Areas.{package_of, processing_id}
@@ -19,19 +19,19 @@ use Rattle.state.specs.View.{cleared_package, view_package, view_packages}
 use Rattle.state.proofs.PackagesAlong.{packages-length, package-at}
 use Rattle.areas.specs.Place.{in_processing, processing_place}
 
-size-at : (ps : List Package) (i : ℕ) (d : Package) → first_place in_processing 0 ps ≡ At i → (get_or ps i d).size ≡ processing_size ps
+size-at : (ps : List Package) (i : ℕ) (d : Package) → position_from in_processing 0 ps ≡ Some i → (get_or ps i d).size ≡ processing_size ps
 unfolding of_processing
 size-at ps i d e = holds-at-place in_processing (λ ps i. (get_or ps i d).size ≡ processing_size ps) (λ p ps b. rw b) (λ p ps i b same. rw b same) ps i e
 
-size_none : (ps : List Package) → first_place in_processing 0 ps ≡ Nothing → processing_size ps ≡ 0
+size_none : (ps : List Package) → position_from in_processing 0 ps ≡ None → processing_size ps ≡ 0
 unfolding of_processing
 size_none ps e = holds-where-none in_processing (λ ps. processing_size ps ≡ 0) refl (λ p ps b none. rw b none) 0 ps e
 
-by_answer : (ps : List Package) (i : ℕ) (d : Package) (r : Found) → first_place in_processing 0 ps ≡ r → i ≡ place_or (length ps) r
+by_answer : (ps : List Package) (i : ℕ) (d : Package) (r : Found) → position_from in_processing 0 ps ≡ r → i ≡ unwrap_or r (length ps)
     → (i < length ps → (get_or ps i d).size ≡ processing_size ps) × (length ps ≤ i → processing_size ps ≡ 0)
-by_answer ps i d (At j) e same =
+by_answer ps i d (Some j) e same =
     (λ below. rw same (size-at ps j d e), λ past. absurd (omega (arith, (placed-in in_processing ps j e).below)))
-by_answer ps i d Nothing e same = (λ below. absurd (omega arith), λ past. size_none ps e)
+by_answer ps i d None e same = (λ below. absurd (omega arith), λ past. size_none ps e)
 
 -- i is what `processing_place` gave
 module _ (t : Transfers) (few : t.count ≤ packages_most) (long : length t.packages ≡ packages_most)
@@ -42,7 +42,7 @@ module _ (t : Transfers) (few : t.count ≤ packages_most) (long : length t.pack
   answer : (i < length (view_packages t) → (get_or (view_packages t) i (view_package cleared_package)).size ≡ processing_size (view_packages t))
       × (length (view_packages t) ≤ i → processing_size (view_packages t) ≡ 0)
   unfolding processing_place
-  answer = by_answer (view_packages t) i (view_package cleared_package) (first_place in_processing 0 (view_packages t)) refl place
+  answer = by_answer (view_packages t) i (view_package cleared_package) (position_from in_processing 0 (view_packages t)) refl place
 
   pub size-there : i < t.count → (get_or t.packages i cleared_package).size ≡ size
   size-there below =

@@ -4,7 +4,7 @@ ghost use Rattle.model.specs.Sound.{packages_most};
 ghost use Rattle.state.specs.View.{view_packages};
 ghost use Rattle.soundness.specs.Parts.{counts_of};
 
-use state::package::{is_being_processed, is_processed};
+use state::package::PackageState;
 use state::transfers::Transfers;
 
 // The packages that are Processed, and those that are Processing.
@@ -27,19 +27,14 @@ pub fn count_states(t: Transfers) -> Counts
     requires { t.count ≤ packages_most }
     ensures { result ≡ counts_of (view_packages t) }
 {
-    let count = t.count;
     let mut processed = 0;
     let mut processing = 0;
-    let mut i = 0;
-    while i < count {
-        let p = t.packages[i];
-        let state = p.state;
-        processed += one_if(is_processed(state));
-        processing += one_if(is_being_processed(state));
-        i += 1;
+    for p in &t.packages[..t.count] {
+        processed += one_if(p.state == PackageState::Processed);
+        processing += one_if(p.state == PackageState::Processing);
     }
     Counts {
-        processed: processed,
-        processing: processing,
+        processed,
+        processing,
     }
 }

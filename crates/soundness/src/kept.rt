@@ -15,7 +15,7 @@ use checksum::SUM_MOST;
 use clusters::table::Table;
 use clusters::within::table_within;
 use state::limits::ENTRIES_MOST;
-use state::phase::{Phase, is_processing};
+use state::phase::Phase;
 use state::session::Entry;
 use state::transfers::Transfers;
 use state::work::{Work, is_cleared_work};
@@ -97,7 +97,7 @@ pub fn session_and_kept_sound(
     requires { KeptCheckable phase t count }
     ensures { result ≡ session_part_sound (view_phase phase) (counted_session beginning entries count) (view_packages t) (view_work w) }
 {
-    let processing = is_processing(phase);
+    let processing = phase == Phase::Processing;
     if !values_sound(processing, t, w) {
         return false;
     }

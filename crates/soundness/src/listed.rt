@@ -8,7 +8,7 @@ use crate::counts::count_states;
 use crate::phases::phase_fits;
 use listed_actions::columns::{entry_columns, is_among};
 use state::limits::ENTRIES_MOST;
-use state::package::is_processed;
+use state::package::PackageState;
 use state::phase::Phase;
 use state::session::Entry;
 use state::transfers::Transfers;
@@ -19,15 +19,10 @@ fn processed_as_listed(t: Transfers, ids: [u32; ENTRIES_MOST], listed: usize) ->
     requires { (t.count ≤ packages_most) × (listed ≤ entries_most) }
     ensures { ProcessedAsListed t ids listed result }
 {
-    let count = t.count;
-    let mut i = 0;
-    while i < count {
-        let p = t.packages[i];
-        let state = p.state;
-        if is_processed(state) != is_among(&ids, listed, p.id) {
+    for p in &t.packages[..t.count] {
+        if (p.state == PackageState::Processed) != is_among(&ids, listed, p.id) {
             return false;
         }
-        i += 1;
     }
     true
 }
@@ -49,7 +44,5 @@ pub fn list_sound(phase: Phase, t: Transfers, entries: [Entry; ENTRIES_MOST], co
     if count < 1 {
         return true;
     }
-    let columns = entry_columns(entries, count);
-    let ids = columns.ids;
-    processed_as_listed(t, ids, count)
+    processed_as_listed(t, entry_columns(entries, count).ids, count)
 }

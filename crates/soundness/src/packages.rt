@@ -5,18 +5,18 @@ ghost use Rattle.model.specs.Sound.{store_most, packages_most, store_sound, rece
 ghost use Rattle.state.specs.View.{view_package, view_packages, view_transfers};
 
 use state::limits::{ID_MOST, PACKAGES_MOST, STORE_MOST};
-use state::package::{Package, is_transferring};
+use state::package::{Package, PackageState};
 use state::transfers::Transfers;
 
 // Says whether the bytes received are at most the size, and equal to it past Transferring.
 fn received_sound(p: Package) -> bool
     ensures { result ≡ received_sound (view_package p) }
 {
-    let state = p.state;
-    if is_transferring(state) {
-        return p.received <= p.size;
+    if p.state == PackageState::Transferring {
+        p.received <= p.size
+    } else {
+        p.received == p.size
     }
-    p.received == p.size
 }
 
 // Says whether a package is sound by itself.
@@ -34,23 +34,18 @@ fn packages_rise(t: Transfers, store_length: usize) -> bool
     requires { (t.count ≤ packages_most) × (store_length ≤ store_most) }
     ensures { result ≡ packages_rise 0 t.next (view_packages t) && leb (declared (view_packages t)) store_length }
 {
-    let count = t.count;
-    let next = t.next;
     let room = store_length as u64;
-    let mut start: u64 = 0;
-    let mut last: u64 = 0;
-    let mut i = 0;
-    while i < count {
-        let p = t.packages[i];
+    let mut start = 0;
+    let mut last = 0;
+    for p in &t.packages[..t.count] {
         let id = p.id as u64;
         let end = start + p.size as u64;
-        let own = package_sound(p);
-        if !((last < id) & ((id < next) & (own & (end <= room)))) {
+        let own = package_sound(*p);
+        if !((last < id) & ((id < t.next) & (own & (end <= room)))) {
             return false;
         }
         start = end;
         last = id;
-        i += 1;
     }
     true
 }

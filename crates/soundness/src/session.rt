@@ -9,7 +9,7 @@ ghost use Rattle.listed_actions.specs.Listed.{listed_actions};
 ghost use Rattle.soundness.specs.Parts.{actions_sound_on};
 
 use actions::action::{Action, Change};
-use clusters::columns::columns_of;
+use clusters::columns::Columns;
 use clusters::table::Table;
 use clusters::within::{cluster_within, part_within};
 use listed_actions::in_turn::pass_in_turn;
@@ -20,12 +20,9 @@ use state::session::Entry;
 fn action_within(action: Action) -> bool
     ensures { result ≡ action_within (view_action action) }
 {
-    let change = action.change;
-    let cluster = action.cluster;
-    match change {
-        Change::Install => cluster_within(cluster),
-        Change::Update => cluster_within(cluster),
-        Change::Remove => part_within(cluster.part),
+    match action.change {
+        Change::Install | Change::Update => cluster_within(action.cluster),
+        Change::Remove => part_within(action.cluster.part),
     }
 }
 
@@ -34,14 +31,10 @@ fn actions_within(entries: [Entry; ENTRIES_MOST], count: usize) -> bool
     requires { count ≤ entries_most }
     ensures { result ≡ actions_within (listed_actions entries count) }
 {
-    let mut i = 0;
-    while i < count {
-        let entry = entries[i];
-        let action = entry.action;
-        if !action_within(action) {
+    for entry in &entries[..count] {
+        if !action_within(entry.action) {
             return false;
         }
-        i += 1;
     }
     true
 }
@@ -56,6 +49,6 @@ pub fn actions_sound(beginning: Table, entries: [Entry; ENTRIES_MOST], count: us
     if !actions_within(entries, count) {
         return false;
     }
-    let columns = columns_of(beginning);
+    let columns = Columns::of(beginning);
     pass_in_turn(columns, entries, count)
 }

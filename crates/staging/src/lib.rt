@@ -16,13 +16,9 @@ pub fn staged(session: Session) -> Table
     requires { session.count ≤ entries_most }
     ensures { result ≡ staged_table session }
 {
-    let count = session.count;
     let mut table = session.beginning;
-    let mut i = 0;
-    while i < count {
-        let entry = session.entries[i];
+    for entry in &session.entries[..session.count] {
         table = apply(table, entry.action);
-        i += 1;
     }
     table
 }
@@ -32,19 +28,10 @@ fn runs_staged(phase: Phase) -> bool
     ensures { result ≡ runs_staged phase }
 {
     match phase {
-        Phase::Idle => false,
-        Phase::Ready => false,
-        Phase::Processing => false,
-        Phase::Activating => false,
-        Phase::Verifying => true,
-        Phase::Activated => true,
-        Phase::RollingBack(_) => true,
+        Phase::Idle | Phase::Ready | Phase::Processing | Phase::Activating => false,
+        Phase::Verifying | Phase::Activated | Phase::RollingBack(_) => true,
         Phase::RolledBack => false,
-        Phase::CleaningUp(origin) => match origin {
-            CleanUpOrigin::Ready => false,
-            CleanUpOrigin::Activated => true,
-            CleanUpOrigin::RolledBack => false,
-        },
+        Phase::CleaningUp(origin) => origin == CleanUpOrigin::Activated,
     }
 }
 
@@ -54,7 +41,8 @@ pub fn running(phase: Phase, session: Session) -> Table
     ensures { result ≡ running_table phase session }
 {
     if runs_staged(phase) {
-        return staged(session);
+        staged(session)
+    } else {
+        session.beginning
     }
-    session.beginning
 }

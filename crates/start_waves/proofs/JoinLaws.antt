@@ -12,9 +12,9 @@ use lib.Seq.{get_or-drop}
 use borrow.Author.Tests.{ltb-true, ltb-false, lt-ltb, le-ltb, eq-eqb, ne_eqb, eqb-true, eqb-false, leb-true}
 use Rattle.base.proofs.Tests.{bool_cases, none-some}
 use Rattle.base.proofs.Counted.{seen_step, seen_end}
-use Rattle.place_in_list.specs.declared.Found.{Found}
-use Rattle.place_in_list.specs.declared.Found.TheVariants.{At, Nothing}
-use Rattle.place_in_list.specs.Place.{place_or}
+use Rattle.std.specs.Prelude.{None, Some, unwrap_or}
+use Rattle.std.specs.List.{list_all}
+use Rattle.place_in_list.specs.Place.{Found}
 use Rattle.clusters.specs.declared.cluster.Need.{Need}
 use Rattle.clusters.specs.Cluster.{Cluster, cluster, needs_most}
 use Rattle.clusters.specs.Table.{Table, find, table_within, clusters_most}
@@ -42,25 +42,10 @@ module _ (waits : List ℕ) (own : ℕ) (long : length waits ≡ waits_most) (h 
   pub waits_end : (j : ℕ) → needs_most ≤ j → drop j (waits_from waits own) ≡ []
   waits_end j l = seen_end (drop (own * needs_most) waits) needs_most enough j l
 
-module _ (test : ℕ → Bool) (x : ℕ) (xs : List ℕ) where
-  pub all-stops : test x ≡ false → all test (x ∷ xs) ≡ false
-  unfolding all
-  all-stops e = rw e
-
-  pub all-goes-on : test x ≡ true → all test (x ∷ xs) ≡ all test xs
-  unfolding all
-  all-goes-on e = rw e
-
--- r is what the test of a wave answered
-pub waits-for : (own r s : Bool) → r ≡ s → not own && not r ≡ true → own || s ≡ false
-waits-for true r s e t = sym t
-waits-for false true s e t = sym e ∙ sym t
-waits-for false false s e t = sym e
-
-pub waits-not : (own r s : Bool) → r ≡ s → not own && not r ≡ false → own || s ≡ true
-waits-not true r s e t = refl
-waits-not false true s e t = sym e
-waits-not false false s e t = sym e ∙ sym t
+pub all-is : (test : ℕ → Bool) (xs : List ℕ) → list_all test xs ≡ all test xs
+unfolding all
+all-is test [] = refl
+all-is test (x ∷ xs) = ap (◌&&◌ (test x)) (all-is test xs)
 
 -- ---- the waves in the middle of a round: of the first i clusters, those that join have the number
 
@@ -109,20 +94,20 @@ module _ (t : Table) (ok : table_within t ≡ true) (entries : List WaveEntry) (
 
   module _ (waits waves : List ℕ) (one : 1 ≤ number) (h : i < length t) (absent : (part : ℕ) → find part t ≡ none → wave_of part entries ≡ 0)
       (waved : (m : ℕ) → m < length t → get_or waves m 0 ≡ wave_of (cluster_at t m).part so_far) where
-    place-part : (n : Need) (k : ℕ) → place_of n.part t ≡ At k → (cluster_at t k).part ≡ n.part
+    place-part : (n : Need) (k : ℕ) → place_of n.part t ≡ Some k → (cluster_at t k).part ≡ n.part
     place-part n k e = found_part n.part t _ (place-says n.part t k (cluster 0 no_version []) e).there
 
-    place_in : (n : Need) (k : ℕ) → place_of n.part t ≡ At k → k < length t
+    place_in : (n : Need) (k : ℕ) → place_of n.part t ≡ Some k → k < length t
     place_in n k e = (place-says n.part t k (cluster 0 no_version []) e).below
 
     -- the place is the own one exactly where the part number is
-    same_test : (n : Need) (k : ℕ) → place_of n.part t ≡ At k → eqb k i ≡ eqb n.part (cluster_at t i).part
+    same_test : (n : Need) (k : ℕ) → place_of n.part t ≡ Some k → eqb k i ≡ eqb n.part (cluster_at t i).part
     same_test n k e =
         bool_cases (eqb k i)
         (λ z. z ∙ sym (eq-eqb _ _ (sym (place-part n k e) ∙ ap (λ (m : ℕ). (cluster_at t m).part) (eqb-true k i z))))
         λ z. z ∙ sym (ne_eqb n.part (cluster_at t i).part λ q. eqb-false k i z (one_place 0 t k i (rising-clusters t ok) (place_in n k e) h (place-part n k e ∙ q)))
 
-    same-started : (n : Need) (k : ℕ) → place_of n.part t ≡ At k → started_before waves k number ≡ has_wave entries n.part
+    same-started : (n : Need) (k : ℕ) → place_of n.part t ≡ Some k → started_before waves k number ≡ has_wave entries n.part
     same-started n k e =
         let wave : get_or waves k 0 ≡ wave_of n.part so_far = waved k (place_in n k e) ∙ ap (λ (part : ℕ). wave_of part so_far) (place-part n k e) in
         rw (lt-ltb k clusters_most (omega (arith, place_in n k e, few-clusters t ok)), wave) (before-round one n.part)
@@ -138,10 +123,10 @@ module _ (t : Table) (ok : table_within t ≡ true) (entries : List WaveEntry) (
     unfolding wait_place
     need-passes n = go (place_of n.part t) refl
       where
-        go : (r : Found) → place_of n.part t ≡ r → passes waves i number (place_or clusters_most r) ≡ eqb n.part (cluster_at t i).part || has_wave entries n.part
-        go (At k) e =
+        go : (r : Found) → place_of n.part t ≡ r → passes waves i number (unwrap_or r clusters_most) ≡ eqb n.part (cluster_at t i).part || has_wave entries n.part
+        go (Some k) e =
             ap (λ (b : Bool). b || started_before waves k number) (same_test n k e) ∙ ap (λ (b : Bool). eqb n.part (cluster_at t i).part || b) (same-started n k e)
-        go Nothing e =
+        go None e =
             let f = nothing-found 0 n.part t e in
             rw (ne_eqb clusters_most i (λ q. omega (arith, few-clusters t ok)), other-part n f, absent n.part f)
 

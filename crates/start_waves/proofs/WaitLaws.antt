@@ -11,7 +11,8 @@ use lib.ListN.{length, take, get_or, set, get_elem?, length-take, length-set}
 use lib.Seq.{get_or-take, get_or-set_same, get_or-set_other}
 use Rattle.base.proofs.Tests.{bool_cases}
 use Rattle.base.proofs.Counted.{counted-few}
-use Rattle.place_in_list.specs.Place.{place_or}
+use Rattle.std.specs.Prelude.{unwrap_or}
+use Rattle.place_in_list.specs.Place.{Found}
 use Rattle.place_in_list.proofs.Placed.{place-in-map}
 use Rattle.clusters.specs.declared.cluster.Cluster.{Cluster as ClusterStruct}
 use Rattle.clusters.specs.declared.table.Table.{Table as TableStruct}
@@ -49,11 +50,11 @@ module _ (c : ClusterStruct) (few : c.need_count ≤ needs_most) (long : length 
   no-need-left h = rw (needs-seen, no-element (take c.need_count c.needs) j (rw seen-length h))
 
   pub need-place : (column : List ℕ) (r : ℕ) → j < c.need_count → column ≡ map part_of t
-      → r ≡ place_or clusters_most (place_among 0 (get_or c.needs j no_need).part column) → r ≡ wait_place t own (get_elem? (view_cluster c).needs j)
+      → r ≡ unwrap_or (place_among 0 (get_or c.needs j no_need).part column) clusters_most → r ≡ wait_place t own (get_elem? (view_cluster c).needs j)
   unfolding wait_place
   need-place column r h e q =
       rw (needs-seen, element (take c.need_count c.needs) j no_need (rw seen-length h), get_or-take c.need_count c.needs j no_need h)
-      (q ∙ ap (λ (l : List ℕ). place_or clusters_most (place_among 0 (get_or c.needs j no_need).part l)) e ∙ ap (place_or clusters_most) (place-in-map part_of (eqb (get_or c.needs j no_need).part) 0 t))
+      (q ∙ ap (λ (l : List ℕ). unwrap_or (place_among 0 (get_or c.needs j no_need).part l) clusters_most) e ∙ ap (λ (r : Found). unwrap_or r clusters_most) (place-in-map part_of (eqb (get_or c.needs j no_need).part) 0 t))
 
 -- ---- the flat array
 

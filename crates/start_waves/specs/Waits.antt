@@ -1,8 +1,7 @@
 -- The places of the clusters that a cluster waits for, looked up once.
-use Rattle.std.specs.Prelude.{ℕ, ◌<◌, ◌+◌, ◌*◌, ◌≡◌, true, List, [], map, length, take, get_or}
+use Rattle.std.specs.Prelude.{ℕ, ◌<◌, ◌+◌, ◌*◌, ◌≡◌, true, List, [], map, length, take, get_or, unwrap_or}
 use Rattle.std.proofs.Math.Option.{Option, none, some}
 use Rattle.std.proofs.Math.ListN.{get_elem?}
-use Rattle.place_in_list.specs.Place.{place_or}
 use Rattle.clusters.specs.declared.cluster.Need.{Need}
 use Rattle.clusters.specs.declared.table.Table.{Table as TableStruct}
 use Rattle.clusters.specs.Cluster.{Cluster, cluster, needs_most}
@@ -17,7 +16,7 @@ cluster_at t i = get_or t i (cluster 0 no_version [])
 -- where a cluster stands that may be needed: behind every place where it is absent, at the own place where nothing is needed
 unfoldable pub wait_place : Table → ℕ → Option Need → ℕ
 wait_place t own none = own
-wait_place t own (some n) = place_or clusters_most (place_of n.part t)
+wait_place t own (some n) = unwrap_or (place_of n.part t) clusters_most
 
 -- the place that a cluster at the place own waits for by its need j
 abbrev pub wait_by : Table → ℕ → Cluster → ℕ → ℕ

@@ -15,7 +15,7 @@ ghost use Rattle.start_waves.specs.OnSound.{waves_on_sound};
 
 use crate::rounds::list_waves;
 use crate::waits::waits_of;
-use clusters::columns::columns_of;
+use clusters::columns::Columns;
 use clusters::table::Table;
 use reading_reply::ReadingReply;
 use refusal::BAD_STATE;
@@ -32,7 +32,7 @@ fn write_waves(table: Table, buffer: &mut [u32])
     requires { (table_within (view_table table) ≡ true) × (2 * table.count ≤ length buffer.old) }
     ensures { buffer.new ≡ sets buffer.old 0 (numbers_of (start_waves (view_table table))) }
 {
-    let columns = columns_of(table);
+    let columns = Columns::of(table);
     let waits = waits_of(table, &columns.parts);
     list_waves(&columns.parts, &waits.places, columns.count, buffer);
 }

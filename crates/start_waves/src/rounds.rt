@@ -41,15 +41,8 @@ fn can_start(
     requires { (own < clusters_most) × (length waits.now ≡ waits_most) × (length waves.now ≡ clusters_most) }
     ensures { result ≡ all (passes waves.now own number) (waits_from waits.now own) }
 {
-    let mut j = 0;
-    while j < NEEDS_MOST {
-        let place = waits[own * NEEDS_MOST + j];
-        if (place != own) & !started_before(waves, place, number) {
-            return false;
-        }
-        j += 1;
-    }
-    true
+    waits[own * NEEDS_MOST..(own + 1) * NEEDS_MOST].iter().all(|place| (*place == own)
+        | started_before(waves, *place, number))
 }
 
 // Says whether the cluster at the place own joins the wave of this number: without a wave so far, it can start, or it closes. Precondition:
@@ -103,19 +96,14 @@ fn add_wave(
 {
     let mut waves = started.waves;
     let mut count = started.count;
-    let mut i = 0;
-    while i < size {
+    for i in 0..size {
         if joins_at(closing, waits, &waves, i, number) {
             waves[i] = number;
             put_entry(buffer, count, parts[i], number);
             count += 1;
         }
-        i += 1;
     }
-    Started {
-        waves: waves,
-        count: count,
-    }
+    Started { waves, count }
 }
 
 // Lists the waves of the table that the arrays are of. Each round but the last lists a cluster; where one lists none the rest close.

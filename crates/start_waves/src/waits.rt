@@ -1,6 +1,5 @@
 // The places of the clusters that each cluster waits for, looked up once and not in each round.
-ghost use Rattle.std.specs.Prelude.{◌≡◌, map, ◌≤◌, ◌<◌, length, take};
-ghost use Rattle.place_in_list.specs.Place.{place_or};
+ghost use Rattle.std.specs.Prelude.{◌≡◌, unwrap_or, map, ◌≤◌, ◌<◌, length, take};
 ghost use Rattle.clusters.specs.Cluster.{needs_most};
 ghost use Rattle.clusters.specs.Table.{Table as PlainTable, clusters_most};
 ghost use Rattle.clusters.specs.View.{view_cluster, view_table};
@@ -10,7 +9,6 @@ ghost use Rattle.start_waves.specs.Waits.{wait_by, PartsOf, WaitsOf};
 use clusters::cluster::{Cluster, NEEDS_MOST};
 use clusters::columns::place_of;
 use clusters::table::{CLUSTERS_MOST, Table};
-use place_in_list::Found;
 
 // A place for each need of each cluster.
 pub const WAITS_MOST: usize = CLUSTERS_MOST * NEEDS_MOST;
@@ -25,12 +23,9 @@ pub struct Waits {
 // so many count; `wait_of` requires the same.
 fn place_or_behind(parts: &[u32; CLUSTERS_MOST], count: usize, part: u32) -> usize
     requires { (count ≤ clusters_most) × (length parts.now ≡ clusters_most) }
-    ensures { result ≡ place_or clusters_most (place_among 0 part (take count parts.now)) }
+    ensures { result ≡ unwrap_or (place_among 0 part (take count parts.now)) clusters_most }
 {
-    let Found::At(i) = place_of(parts, count, part) else {
-        return CLUSTERS_MOST;
-    };
-    i
+    place_of(parts, count, part).unwrap_or(CLUSTERS_MOST)
 }
 
 // Finds the place that the cluster at the place own waits for by its need j. Precondition: the column has 64 places, at most so many count,
@@ -53,13 +48,9 @@ pub fn waits_of(t: Table, parts: &[u32; CLUSTERS_MOST]) -> Waits
     ensures { WaitsOf result.places (view_table t) t.count }
 {
     let mut places = [0usize; WAITS_MOST];
-    let count = t.count;
-    let mut k = 0;
-    while k < count * NEEDS_MOST {
+    for k in 0..t.count * NEEDS_MOST {
         let own = k / NEEDS_MOST;
-        let c = t.clusters[own];
-        places[k] = wait_of(parts, count, c, own, k % NEEDS_MOST);
-        k += 1;
+        places[k] = wait_of(parts, t.count, t.clusters[own], own, k % NEEDS_MOST);
     }
-    Waits { places: places }
+    Waits { places }
 }

@@ -1,4 +1,4 @@
--- What a call gives that changes the kept values alone: by its parts, and as the model has it. Assumes nothing.
+-- What a call gives that changes the kept values alone, as the model has it. Assumes nothing.
 use mathlib.Core.Path.{◌≡◌}
 use mathlib.Core.Bool.{false}
 use mathlib.Core.Option.{some}
@@ -13,10 +13,6 @@ use Rattle.state.specs.declared.answer.Answered.{Answered}
 use Rattle.state.specs.View.{view_transfers, view_phase, view_session, is_cleared_work, kept_work}
 use Rattle.state.specs.Exact.{with_work}
 use Rattle.state.specs.Outcome.{outcome, answered, reply_of, view_outcome}
-
-pub give-work : (answer : Answer) (w w' : Work) (s s' : State) (r : Answered) → w' ≡ w → s' ≡ with_work w' s → r ≡ answered answer s'
-    → r ≡ answered answer (with_work w s)
-give-work answer w w' s s' r e f g = rw (g, f, e)
 
 -- values that are not cleared are seen as they are
 pub view-with-work : (s : State) (store : Store) (w : Work) (answer : Answer) (answer' : calls.Answer) → reply_of answer ≡ calls.accepted answer'

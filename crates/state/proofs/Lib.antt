@@ -7,3 +7,4 @@ pub mod Ways
 pub mod OnlyInProcessing
 pub mod KeptValues
 pub mod GiveWork
+pub mod Tests

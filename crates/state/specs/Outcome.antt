@@ -46,17 +46,18 @@ is_refusal (Refused number) = true
 
 -- a call's answer with the state, and the store
 pub record Outcome : Type 0 where
-  pub answered : Answered
+  pub answered : Answered Answer
   pub store : Store
 
-abbrev pub outcome : Answered → Store → Outcome
+abbrev pub outcome : Answered Answer → Store → Outcome
 outcome r store = record { answered = r; store = store }
 
-abbrev pub answered : Answer → State → Answered
+-- an answer of any kind with the state
+abbrev pub answered : {A : Type 0} → A → State → Answered A
 answered answer s = record { answer = answer; state = s }
 
 -- "a refusal is the number alone"; "the state comes back equal"
-abbrev pub refused_by : State → ℕ → Answered
+abbrev pub refused_by : State → ℕ → Answered Answer
 refused_by s number = answered (Refused number) s
 
 -- an outcome as the model has it
@@ -65,7 +66,7 @@ view_outcome o =
     record { reply = reply_of o.answered.answer; state = view_state o.answered.state; store = o.store }
 
 -- what a call answered, with the store then, as the model has it
-abbrev pub view_answered : Answered → Store → step.Outcome
+abbrev pub view_answered : Answered Answer → Store → step.Outcome
 view_answered r store = view_outcome (outcome r store)
 
 -- an accepted call gives a state that is sound with the store then

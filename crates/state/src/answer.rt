@@ -1,8 +1,10 @@
 // What the twelve calls answer.
 ghost use Rattle.std.specs.Prelude.{◌≡◌};
-ghost use Rattle.state.specs.Outcome.{is_refusal, refused_by, answered};
+ghost use Rattle.refusal.specs.Number.{number_of};
+ghost use Rattle.state.specs.Outcome.{refused_by, answered};
 
 use crate::state::State;
+use refusal::Refusal;
 
 // The answers of document 01 by their names, the id that TransferStart gives, and a refusal, which is its number alone.
 #[derive(Clone, Copy)]
@@ -22,15 +24,15 @@ pub enum Answer {
     Refused(u32),
 }
 
-// A call's answer and the state then.
+// A call's answer, of whatever kind, and the state then.
 #[derive(Clone, Copy)]
-pub struct Answered {
-    pub answer: Answer,
+pub struct Answered<A> {
+    pub answer: A,
     pub state: State,
 }
 
-// Refuses by a number and gives back the very state that came in.
-pub fn refused(s: State, number: u32) -> Answered
+// Refuses with a number and gives back the very state that came in.
+pub fn refused(s: State, number: u32) -> Answered<Answer>
     ensures { result ≡ refused_by s number }
 {
     Answered {
@@ -39,32 +41,15 @@ pub fn refused(s: State, number: u32) -> Answered
     }
 }
 
-pub fn answer_with(answer: Answer, s: State) -> Answered
-    ensures { result ≡ answered answer s }
+// Refuses with a refusal's number and gives back the very state that came in.
+pub fn refuse(s: State, refusal: Refusal) -> Answered<Answer>
+    ensures { result ≡ refused_by s (number_of refusal) }
 {
-    Answered {
-        answer: answer,
-        state: s,
-    }
+    refused(s, refusal.number())
 }
 
-// Says whether an answer is a refusal.
-pub fn is_refusal(answer: Answer) -> bool
-    ensures { result ≡ is_refusal answer }
+pub fn answer_with<A: Copy>(answer: A, s: State) -> Answered<A>
+    ensures { result ≡ answered answer s }
 {
-    match answer {
-        Answer::Id(_) => false,
-        Answer::Done => false,
-        Answer::Working => false,
-        Answer::Processed => false,
-        Answer::Cancelled => false,
-        Answer::Inconsistent => false,
-        Answer::PreActivationFailed => false,
-        Answer::MissingDependencies => false,
-        Answer::VerificationFailed => false,
-        Answer::NotAbleToRollback => false,
-        Answer::NotAbleToRevert => false,
-        Answer::CleaningFailed => false,
-        Answer::Refused(_) => true,
-    }
+    Answered { answer, state: s }
 }

@@ -1,24 +1,24 @@
 // The manager's state.
 ghost use Rattle.std.specs.Prelude.{◌≡◌};
-ghost use Rattle.model.specs.State.{phase_number, is_processing};
+ghost use Rattle.model.specs.State.{phase_number};
 ghost use Rattle.state.specs.View.{view_phase};
 
 // Where RollingBack came from.
-#[derive(Clone, Copy)]
+#[derive(Clone, Copy, PartialEq, Eq)]
 pub enum RollbackOrigin {
     Verifying,
     Activated,
 }
 
 // Where CleaningUp came from.
-#[derive(Clone, Copy)]
+#[derive(Clone, Copy, PartialEq, Eq)]
 pub enum CleanUpOrigin {
     Ready,
     Activated,
     RolledBack,
 }
 
-#[derive(Clone, Copy)]
+#[derive(Clone, Copy, PartialEq, Eq)]
 pub enum Phase {
     Idle,
     Ready,
@@ -65,10 +65,4 @@ pub fn phase_number(phase: Phase) -> usize
         Phase::RolledBack => ROLLED_BACK,
         Phase::CleaningUp(_) => CLEANING_UP,
     }
-}
-
-pub fn is_processing(phase: Phase) -> bool
-    ensures { result ≡ is_processing (view_phase phase) }
-{
-    phase_number(phase) == PROCESSING
 }

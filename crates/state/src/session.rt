@@ -30,27 +30,20 @@ pub fn new_session(beginning: Table) -> Session
         id: 0,
         action: cleared_action(),
     };
-    let entries = [cleared; ENTRIES_MOST];
     Session {
-        beginning: beginning,
-        entries: entries,
+        beginning,
+        entries: [cleared; ENTRIES_MOST],
         count: 0,
     }
 }
 
 // Adds an entry behind the others. Precondition: the list has room; Work meets it, because the list has the Processed packages, and one of
 // the at most 16 is still processing.
-pub fn with_entry(session: Session, entry: Entry) -> Session
+pub fn with_entry(mut session: Session, entry: Entry) -> Session
     requires { session.count < entries_most }
     ensures { result ≡ with_entry session entry }
 {
-    let count = session.count;
-    let mut entries = session.entries;
-    entries[count] = entry;
-    let beginning = session.beginning;
-    Session {
-        beginning: beginning,
-        entries: entries,
-        count: count + 1,
-    }
+    session.entries[session.count] = entry;
+    session.count += 1;
+    session
 }

@@ -21,14 +21,11 @@ pub struct State {
 pub fn loaded_state(table: Table, first: u32) -> State
     ensures { result ≡ loaded_state table first }
 {
-    let transfers = no_transfers(first);
-    let session = new_session(table);
-    let work = cleared_work();
     State {
         phase: Phase::Idle,
-        transfers: transfers,
-        session: session,
-        work: work,
+        transfers: no_transfers(first),
+        session: new_session(table),
+        work: cleared_work(),
     }
 }
 
@@ -36,31 +33,19 @@ pub fn loaded_state(table: Table, first: u32) -> State
 pub fn in_phase(s: State, phase: Phase) -> State
     ensures { result ≡ in_phase phase s }
 {
-    let transfers = s.transfers;
-    let session = s.session;
-    let work = s.work;
-    State {
-        phase: phase,
-        transfers: transfers,
-        session: session,
-        work: work,
-    }
+    State { phase, ..s }
 }
 
 // Gives the state with other transfers.
 pub fn with_transfers(s: State, transfers: Transfers) -> State
     ensures { result ≡ with_transfers transfers s }
 {
-    let mut changed = s;
-    changed.transfers = transfers;
-    changed
+    State { transfers, ..s }
 }
 
 // Gives the state with other kept values.
 pub fn with_work(s: State, work: Work) -> State
     ensures { result ≡ with_work work s }
 {
-    let mut changed = s;
-    changed.work = work;
-    changed
+    State { work, ..s }
 }

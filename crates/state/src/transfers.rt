@@ -20,9 +20,8 @@ pub fn no_transfers(first: u32) -> Transfers
     ensures { result ≡ no_transfers first }
 {
     let cleared = new_package(0, 0);
-    let packages = [cleared; PACKAGES_MOST];
     Transfers {
-        packages: packages,
+        packages: [cleared; PACKAGES_MOST],
         count: 0,
         next: first as u64,
     }
@@ -30,32 +29,22 @@ pub fn no_transfers(first: u32) -> Transfers
 
 // Puts a package in the place of the one at i. Precondition: i is below 16; the calls find i below the count, which is at most 16 in a
 // sound state, and `call_examples` gives 0.
-pub fn with_package(t: Transfers, i: usize, p: Package) -> Transfers
+pub fn with_package(mut t: Transfers, i: usize, p: Package) -> Transfers
     requires { i < packages_most }
     ensures { result ≡ with_package i p t }
 {
-    let mut packages = t.packages;
-    packages[i] = p;
-    Transfers {
-        packages: packages,
-        count: t.count,
-        next: t.next,
-    }
+    t.packages[i] = p;
+    t
 }
 
 // Adds a package of a size behind the others, with the next id, which then rises by one. Precondition: there are fewer than 16 packages and
 // the next id is of 32 bits; TransferStart refuses otherwise.
-pub fn with_new_package(t: Transfers, size: u32) -> Transfers
+pub fn with_new_package(mut t: Transfers, size: u32) -> Transfers
     requires { (t.count < packages_most) × (t.next < 4294967296) }
     ensures { result ≡ with_new_package size t }
 {
-    let count = t.count;
-    let next = t.next;
-    let mut packages = t.packages;
-    packages[count] = new_package(next as u32, size);
-    Transfers {
-        packages: packages,
-        count: count + 1,
-        next: next + 1,
-    }
+    t.packages[t.count] = new_package(t.next as u32, size);
+    t.count += 1;
+    t.next += 1;
+    t
 }

@@ -1,11 +1,11 @@
 // What the state keeps of the package that is processing: all of it is cleared outside Processing.
 ghost use Rattle.std.specs.Prelude.{◌≡◌};
-ghost use Rattle.state.specs.View.{is_install, is_no_version, is_cleared_work};
+ghost use Rattle.state.specs.View.{is_no_version, is_cleared_work};
 ghost use Rattle.state.specs.Exact.{cleared_work};
 
 use actions::action::{Action, Change, cleared_action};
 use checksum::Sums;
-use text::version::Version;
+use text::version::{NO_VERSION, Version};
 
 #[derive(Clone, Copy)]
 pub struct Work {
@@ -22,46 +22,31 @@ pub struct Work {
 pub fn cleared_work() -> Work
     ensures { result ≡ cleared_work }
 {
-    let action = cleared_action();
-    let sums = checksum::start();
     Work {
-        action: action,
+        action: cleared_action(),
         start: 0,
         count: 0,
         sum: 0,
-        running_sums: sums,
+        running_sums: checksum::start(),
         done: 0,
         cancel_noted: false,
-    }
-}
-
-fn is_install(change: Change) -> bool
-    ensures { result ≡ is_install change }
-{
-    match change {
-        Change::Install => true,
-        Change::Update => false,
-        Change::Remove => false,
     }
 }
 
 fn is_no_version(v: Version) -> bool
     ensures { result ≡ is_no_version v }
 {
-    (v.first == 0) & ((v.second == 0) & ((v.third == 0) & (v.fourth == 0)))
+    v == NO_VERSION
 }
 
 // Says whether the kept values and the cancel note are cleared. Unused places play no part.
 pub fn is_cleared_work(w: Work) -> bool
     ensures { result ≡ is_cleared_work w }
 {
-    let action = w.action;
-    let change = action.change;
-    let cluster = action.cluster;
-    let version = cluster.version;
+    let cluster = w.action.cluster;
     let sums = w.running_sums;
-    let no_action = is_install(change)
-        & ((cluster.part == 0) & (is_no_version(version) & (cluster.need_count == 0)));
+    let no_action = (w.action.change == Change::Install)
+        & ((cluster.part == 0) & (is_no_version(cluster.version) & (cluster.need_count == 0)));
     let no_payload = (w.start == 0) & ((w.count == 0) & (w.sum == 0));
     let nothing_done = (sums.c0 == 0) & ((sums.c1 == 0) & ((w.done == 0) & !w.cancel_noted));
     no_action & (no_payload & nothing_done)

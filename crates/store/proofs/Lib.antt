@@ -1,7 +1,6 @@
 -- Compaction is what a loop over areas goes by.
 pub mod PositionLaws
 pub mod MoveLaws
-pub mod Loops
 pub mod Parts
 pub mod Compaction
 pub mod Examples

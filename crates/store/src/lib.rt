@@ -9,37 +9,25 @@ ghost use Rattle.store.specs.Positions.{written, cleared, moved_down};
 pub fn clear(bytes: &mut [u8])
     ensures { bytes.new ≡ replicate (length bytes.old) 0 }
 {
-    let mut i = 0;
-    while i < bytes.len() {
-        bytes[i] = 0;
-        i += 1;
-    }
+    bytes.fill(0);
 }
 
 // Fills the bytes from `from` up to `to` with 0: the part is lent to `clear`.
 pub fn clear_part(store: &mut [u8], from: usize, to: usize)
     ensures { store.new ≡ cleared from to store.old }
 {
-    if to < from {
-        return;
+    if from <= to && to <= store.len() {
+        clear(&mut store[from..to]);
     }
-    if store.len() < to {
-        return;
-    }
-    clear(&mut store[from..to]);
 }
 
 // Writes a block from `at` on: the part of the store that it is as long as is lent to the copier.
 pub fn put_block(store: &mut [u8], at: usize, block: &[u8])
     ensures { store.new ≡ written at block.now store.old }
 {
-    if store.len() < at {
-        return;
+    if at <= store.len() && block.len() <= store.len() - at {
+        store[at..at + block.len()].copy_from_slice(block);
     }
-    if store.len() - at < block.len() {
-        return;
-    }
-    store[at..at + block.len()].copy_from_slice(block);
 }
 
 // Moves the `count` bytes from `from` on down to `to`, the lowest first, so that each is read before it is overwritten. Where the two are
@@ -47,18 +35,7 @@ pub fn put_block(store: &mut [u8], at: usize, block: &[u8])
 pub fn move_down(store: &mut [u8], from: usize, to: usize, count: usize)
     ensures { store.new ≡ moved_down from to count store.old }
 {
-    if from <= to {
-        return;
-    }
-    if store.len() < from {
-        return;
-    }
-    if store.len() - from < count {
-        return;
-    }
-    let mut moved = 0;
-    while moved < count {
-        store[to + moved] = store[from + moved];
-        moved += 1;
+    if to < from && from <= store.len() && count <= store.len() - from {
+        store.copy_within(from..from + count, to);
     }
 }

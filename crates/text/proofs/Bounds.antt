@@ -8,25 +8,22 @@ use lib.ListN.{length, get_or, drop, length-drop}
 use lib.Dec.{leb, ltb, eqb}
 use borrow.Author.Tests.{ltb-false, le-leb, leb-true}
 use Rattle.base.proofs.Tests.{cond_cases, and_both, and_left, and_right}
+use Rattle.std.specs.Prelude.{Option, Some, None}
 use Rattle.base.specs.Quoted.{dot}
 use Rattle.text.specs.declared.cursor.Cursor.{Cursor}
-use Rattle.text.specs.declared.number.Number.{Number}
-use Rattle.text.specs.declared.number.Number.TheVariants.{Value, IllFormed}
 use Rattle.text.specs.declared.version.Version.{Version}
-use Rattle.text.specs.declared.version.VersionRead.{VersionRead}
-use Rattle.text.specs.declared.version.VersionRead.TheVariants as version
 use Rattle.text.specs.Number.{digit_of, number_goes_on, number_begins, number_at}
 use Rattle.text.specs.Version.{version_part_most, version_last_most, version_within, dotted_at, version_at}
 use Rattle.text.proofs.ThenLaws.{then-cases}
 
 -- at most `most`, and ending from `p` to `e`
-abbrev pub Within : ℕ → ℕ → ℕ → Number → Type 0
-Within most p e (Value n next) = (n ≤ most) × (p ≤ next.at) × (next.at ≤ e)
-Within most p e IllFormed = Unit {0}
+abbrev pub Within : ℕ → ℕ → ℕ → Option (ℕ × Cursor) → Type 0
+Within most p e (Some (n, next)) = (n ≤ most) × (p ≤ next.at) × (next.at ≤ e)
+Within most p e None = Unit {0}
 
-within_more : (most p e : ℕ) (x : Number) → Within most (p + 1) e x → Within most p e x
-within_more most p e (Value n next) w = (w.0, omega (arith, w.1), w.2)
-within_more most p e IllFormed w = tt
+within_more : (most p e : ℕ) (x : Option (ℕ × Cursor)) → Within most (p + 1) e x → Within most p e x
+within_more most p e (Some (n, next)) w = (w.0, omega (arith, w.1), w.2)
+within_more most p e None w = tt
 
 pub goes-on-within : (most n p e : ℕ) (l : List ℕ) → n ≤ most → p + length l ≤ e → Within most p e (number_goes_on most n p l)
 unfolding number_goes_on
@@ -53,9 +50,9 @@ begins-within most p e (b ∷ l) o =
 
 -- ---- a number at a position, and one behind a dot
 
-within_text : (most at e : ℕ) (x : Number) → Within most (at + 1) (at + (e - at)) x → Within most (at + 1) e x
-within_text most at e (Value n next) w = (w.0, w.1, omega (arith, w.1, w.2))
-within_text most at e IllFormed w = tt
+within_text : (most at e : ℕ) (x : Option (ℕ × Cursor)) → Within most (at + 1) (at + (e - at)) x → Within most (at + 1) e x
+within_text most at e (Some (n, next)) w = (w.0, w.1, omega (arith, w.1, w.2))
+within_text most at e None w = tt
 
 pub number-within : (s : List ℕ) (at most : ℕ) → Within most (at + 1) (length s) (number_at s at most)
 number-within s at most =
@@ -69,8 +66,8 @@ dotted-within s at most =
     (λ _. within_more most (at + 1) (length s) (number_at s (at + 1) most) (number-within s (at + 1) most))
     (λ _. tt)
 
-module _ (s : List ℕ) (at most : ℕ) (x : Number) (n : ℕ) (next : Cursor) (e : x ≡ number_at s at most) (v : x ≡ Value n next) where
-  found_number : Within most (at + 1) (length s) (Value n next)
+module _ (s : List ℕ) (at most : ℕ) (x : Option (ℕ × Cursor)) (n : ℕ) (next : Cursor) (e : x ≡ number_at s at most) (v : x ≡ Some (n, next)) where
+  found_number : Within most (at + 1) (length s) (Some (n, next))
   found_number = rw (← e, v) at (number-within s at most)
 
   pub number-most : n ≤ most
@@ -82,8 +79,8 @@ module _ (s : List ℕ) (at most : ℕ) (x : Number) (n : ℕ) (next : Cursor) (
   pub number-inside : next.at ≤ length s
   number-inside = found_number.2
 
-module _ (s : List ℕ) (at most : ℕ) (x : Number) (n : ℕ) (next : Cursor) (e : x ≡ dotted_at s at most) (v : x ≡ Value n next) where
-  found-dotted : Within most (at + 1) (length s) (Value n next)
+module _ (s : List ℕ) (at most : ℕ) (x : Option (ℕ × Cursor)) (n : ℕ) (next : Cursor) (e : x ≡ dotted_at s at most) (v : x ≡ Some (n, next)) where
+  found-dotted : Within most (at + 1) (length s) (Some (n, next))
   found-dotted = rw (← e, v) at (dotted-within s at most)
 
   pub dotted-most : n ≤ most
@@ -123,17 +120,17 @@ module _ (v : Version) where
         leb-true _ _
         (and_right (leb v.third version_part_most) _ (and_right (leb v.second version_part_most) _ (and_right (leb v.first version_part_most) _ w)))
 
-abbrev pub WithinVersion : ℕ → ℕ → VersionRead → Type 0
-WithinVersion p e (version.Value v next) = (version_within v ≡ true) × (p ≤ next.at) × (next.at ≤ e)
-WithinVersion p e version.IllFormed = Unit {0}
+abbrev pub WithinVersion : ℕ → ℕ → Option (Version × Cursor) → Type 0
+WithinVersion p e (Some (v, next)) = (version_within v ≡ true) × (p ≤ next.at) × (next.at ≤ e)
+WithinVersion p e None = Unit {0}
 
 pub version-within : (s : List ℕ) (at : ℕ) → WithinVersion (at + 1) (length s) (version_at s at)
 unfolding version_at
 version-within s at =
-    then-cases (WithinVersion (at + 1) (length s)) version.IllFormed (number_at s at version_part_most) _ tt λ a p ea.
-    then-cases (WithinVersion (at + 1) (length s)) version.IllFormed (dotted_at s p.at version_part_most) _ tt λ b q eb.
-    then-cases (WithinVersion (at + 1) (length s)) version.IllFormed (dotted_at s q.at version_part_most) _ tt λ c t ec.
-    then-cases (WithinVersion (at + 1) (length s)) version.IllFormed (dotted_at s t.at version_last_most) _ tt λ d next ed. (
+    then-cases (WithinVersion (at + 1) (length s)) None (number_at s at version_part_most) _ tt λ a p ea.
+    then-cases (WithinVersion (at + 1) (length s)) None (dotted_at s p.at version_part_most) _ tt λ b q eb.
+    then-cases (WithinVersion (at + 1) (length s)) None (dotted_at s q.at version_part_most) _ tt λ c t ec.
+    then-cases (WithinVersion (at + 1) (length s)) None (dotted_at s t.at version_last_most) _ tt λ d next ed. (
       parts_within
           (record { first = a; second = b; third = c; fourth = d })
           (number-most s at version_part_most _ a p refl ea)
@@ -150,8 +147,8 @@ version-within s at =
       dotted-inside s t.at version_last_most _ d next refl ed,
     )
 
-module _ (s : List ℕ) (at : ℕ) (x : VersionRead) (v : Version) (next : Cursor) (e : x ≡ version_at s at) (f : x ≡ version.Value v next) where
-  found-version : WithinVersion (at + 1) (length s) (version.Value v next)
+module _ (s : List ℕ) (at : ℕ) (x : Option (Version × Cursor)) (v : Version) (next : Cursor) (e : x ≡ version_at s at) (f : x ≡ Some (v, next)) where
+  found-version : WithinVersion (at + 1) (length s) (Some (v, next))
   found-version = rw (← e, f) at (version-within s at)
 
   pub version-limits : version_within v ≡ true

@@ -82,3 +82,8 @@ ten-digits n h = digits-below 9 n (omega arith)
 -- the same of a count of digits that a call gave
 pub few-digits : (n r : ℕ) → n ≤ 4294967295 → r ≡ length (digits n) → r ≤ 10
 few-digits n r h e = omega (arith, ten-digits n h)
+
+-- how many digits a number has, for `using`
+pub ruleset lengths = (length-small, length-large)
+
+pub ruleset few_digits = ten-digits

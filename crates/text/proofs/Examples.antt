@@ -12,14 +12,14 @@ use Rattle.text.specs.Number.{number_at, whole_number}
 use Rattle.text.specs.Version.{version, version_within, version_at, whole_version, version_text}
 use Rattle.text.specs.Word.{same_bytes}
 use Rattle.text.specs.Digits.{digits}
-use Rattle.text.specs.Then.{and_then, and_then_version}
+use Rattle.text.specs.Then.{and_then_read}
 use Rattle.text.specs.Open.{computing}
 
 -- ---- numbers
 
 -- the number that a text is, up to a limit
 abbrev number : ℕ → String → Option ℕ
-number most text = and_then none (whole_number most (bytes text)) λ n next. some n
+number most text = and_then_read none (whole_number most (bytes text)) λ n next. some n
 
 -- "numbers in it are decimal without leading zeros"
 numbers-computed : AllHold (number 65535)
@@ -54,7 +54,7 @@ digits-computed = refl
 
 -- the number at a position, and the position behind it
 abbrev number_from : ℕ → Option (ℕ × ℕ)
-number_from at = and_then none (number_at (bytes "7,10.,0") at 99) λ n next. some (n, next.at)
+number_from at = and_then_read none (number_at (bytes "7,10.,0") at 99) λ n next. some (n, next.at)
 
 positions-computed : AllHold number_from
     (0 gives some (7, 1) ∷ 1 gives none ∷ 2 gives some (10, 4) ∷ 3 gives some (0, 4) ∷ 6 gives some (0, 7) ∷ 7 gives none ∷ 8 gives none ∷ [])
@@ -75,7 +75,7 @@ written-computed = refl
 -- ---- versions
 
 abbrev version_of : String → Option Version
-version_of text = and_then_version none (whole_version (bytes text)) λ v next. some v
+version_of text = and_then_read none (whole_version (bytes text)) λ v next. some v
 
 -- "A version is four parts of 0 to 65,535 joined by dots"; A.7: "The fourth version part may be 0 to 4,294,967,295."
 versions-computed : AllHold version_of
@@ -112,7 +112,7 @@ versions-computed = refl
 
 -- the version at a position, and the position behind it
 abbrev version_from : ℕ → Option (Version × ℕ)
-version_from at = and_then_version none (version_at (bytes "5.6.7.8,1.0.0") at) λ v next. some (v, next.at)
+version_from at = and_then_read none (version_at (bytes "5.6.7.8,1.0.0") at) λ v next. some (v, next.at)
 
 version-positions-computed : AllHold version_from (0 gives some (version 5 6 7 8, 7) ∷ 2 gives none ∷ 8 gives none ∷ [])
 unfolding computing

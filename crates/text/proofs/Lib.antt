@@ -1,6 +1,6 @@
+pub mod Positions
 pub mod NumberLaws
 pub mod ThenLaws
-pub mod VersionLaws
 pub mod DigitLaws
 pub mod PutLaws
 pub mod PutPair

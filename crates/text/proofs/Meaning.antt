@@ -11,20 +11,17 @@ use lib.ListN.{length, get_or, drop, length-append, drop_of_length-le}
 use lib.Seq.{drop-cons}
 use lib.Dec.{leb, ltb, eqb}
 use borrow.Author.Tests.{ltb-false, leb-false, eqb-true, eqb-false}
+use Rattle.std.specs.Prelude.{Option, Some, None}
 use Rattle.base.specs.Quoted.{dot}
 use Rattle.base.proofs.Tests.{cond_cases}
 use Rattle.text.specs.declared.cursor.Cursor.{Cursor}
-use Rattle.text.specs.declared.number.Number.{Number}
-use Rattle.text.specs.declared.number.Number.TheVariants.{Value, IllFormed}
 use Rattle.text.specs.declared.version.Version.{Version}
-use Rattle.text.specs.declared.version.VersionRead.{VersionRead}
-use Rattle.text.specs.declared.version.VersionRead.TheVariants as version
 use Rattle.text.specs.Number.{digit_of, number_goes_on, number_begins, number_at, whole_number}
 use Rattle.text.specs.Version.{version_part_most, version_last_most, version_within, dotted_at, version_at, whole_version, version_text}
 use Rattle.text.specs.Digits.{digits}
 use Rattle.text.specs.Meaning.{no_digit_first, Stands}
 use Rattle.text.proofs.DigitLaws.{digits-small, digits-large}
-use Rattle.text.proofs.ThenLaws.{then-cases, then-cases-version}
+use Rattle.text.proofs.ThenLaws.{then-cases}
 use Rattle.text.proofs.Bounds.{number-most, number-inside, version-limits}
 use Rattle.text.proofs.RoundTrip.{drop_past}
 
@@ -47,14 +44,14 @@ record GoesOn (m p : ℕ) (l : List ℕ) (n : ℕ) (next : Cursor) : Type 0 wher
   behind : next.at ≡ p + length more
   ends : no_digit_first rest ≡ true
 
-abbrev FoundOn : ℕ → ℕ → List ℕ → Number → Type 0
-FoundOn m p l (Value n next) = GoesOn m p l n next
-FoundOn m p l IllFormed = Unit {0}
+abbrev FoundOn : ℕ → ℕ → List ℕ → Option (ℕ × Cursor) → Type 0
+FoundOn m p l (Some (n, next)) = GoesOn m p l n next
+FoundOn m p l None = Unit {0}
 
 -- one digit more
-digit-more : (m d p b : ℕ) (l : List ℕ) (x : Number) → d ≡ digit_of b → d < 10 → (m ≡ 0 → ⊥) → FoundOn (m * 10 + d) (p + 1) l x → FoundOn m p (b ∷ l) x
-digit-more m d p b l IllFormed e o z f = tt
-digit-more m d p b l (Value n next) e o z f =
+digit-more : (m d p b : ℕ) (l : List ℕ) (x : Option (ℕ × Cursor)) → d ≡ digit_of b → d < 10 → (m ≡ 0 → ⊥) → FoundOn (m * 10 + d) (p + 1) l x → FoundOn m p (b ∷ l) x
+digit-more m d p b l None e o z f = tt
+digit-more m d p b l (Some (n, next)) e o z f =
     let w : 48 + digit_of b ≡ b = digit-written b (rw e at o) in
     let k : 10 ≤ m * 10 + d = omega arith in
     let q : (m * 10 + d) / 10 ≡ m = omega arith in
@@ -89,13 +86,13 @@ record Begins (p : ℕ) (l : List ℕ) (n : ℕ) (next : Cursor) : Type 0 where
   behind : next.at ≡ p + length (digits n)
   ends : no_digit_first rest ≡ true
 
-abbrev Found : ℕ → List ℕ → Number → Type 0
-Found p l (Value n next) = Begins p l n next
-Found p l IllFormed = Unit {0}
+abbrev Found : ℕ → List ℕ → Option (ℕ × Cursor) → Type 0
+Found p l (Some (n, next)) = Begins p l n next
+Found p l None = Unit {0}
 
-first-digit-read : (p b : ℕ) (l : List ℕ) (x : Number) → digit_of b < 10 → FoundOn (digit_of b) (p + 1) l x → Found p (b ∷ l) x
-first-digit-read p b l IllFormed o f = tt
-first-digit-read p b l (Value n next) o f =
+first-digit-read : (p b : ℕ) (l : List ℕ) (x : Option (ℕ × Cursor)) → digit_of b < 10 → FoundOn (digit_of b) (p + 1) l x → Found p (b ∷ l) x
+first-digit-read p b l None o f = tt
+first-digit-read p b l (Some (n, next)) o f =
     let w : digits n ≡ b ∷ f.more = f.written ∙ rw (digits-small (digit_of b) o, digit-written b o) in
     record {
       rest = f.rest;
@@ -127,7 +124,7 @@ stands-then s at xs ys p q f g = record {
 pub stands-whole : (s text : List ℕ) (q : ℕ) → Stands s 0 text q → length s ≤ q → s ≡ text
 stands-whole s text q f h = f.bytes ∙ rw (drop_of_length-le s h) (append-nil text)
 
-module _ (s : List ℕ) (at most n : ℕ) (next : Cursor) (e : number_at s at most ≡ Value n next) where
+module _ (s : List ℕ) (at most n : ℕ) (next : Cursor) (e : number_at s at most ≡ Some (n, next)) where
   there : Begins at (drop at s) n next
   there = rw e at (number-begins most at (drop at s))
 
@@ -142,13 +139,13 @@ module _ (s : List ℕ) (at most n : ℕ) (next : Cursor) (e : number_at s at mo
   pub number-ends : no_digit_first (drop next.at s) ≡ true
   number-ends = rw left there.ends
 
-module _ (s : List ℕ) (at most n : ℕ) (next : Cursor) (e : dotted_at s at most ≡ Value n next) where
-  dot-there : (get_or s at 0 ≡ dot) × (number_at s (at + 1) most ≡ Value n next)
+module _ (s : List ℕ) (at most n : ℕ) (next : Cursor) (e : dotted_at s at most ≡ Some (n, next)) where
+  dot-there : (get_or s at 0 ≡ dot) × (number_at s (at + 1) most ≡ Some (n, next))
   unfolding dotted_at
   dot-there = go (eqb (get_or s at 0) dot) refl e
     where
-      go : (t : Bool) → eqb (get_or s at 0) dot ≡ t → cond t (number_at s (at + 1) most) IllFormed ≡ Value n next
-          → (get_or s at 0 ≡ dot) × (number_at s (at + 1) most ≡ Value n next)
+      go : (t : Bool) → eqb (get_or s at 0) dot ≡ t → cond t (number_at s (at + 1) most) None ≡ Some (n, next)
+          → (get_or s at 0 ≡ dot) × (number_at s (at + 1) most ≡ Some (n, next))
       go true t f = (eqb-true _ _ t, f)
       go false t f = let z : ◌≡◌ {A = ℕ} 0 1 = cc in absurd (omega arith)
 
@@ -165,17 +162,17 @@ record StandsVersion (s : List ℕ) (at : ℕ) (v : Version) (next : Cursor) : T
   stands : Stands s at (version_text v) next.at
   ends : no_digit_first (drop next.at s) ≡ true
 
-abbrev FoundVersion : List ℕ → ℕ → VersionRead → Type 0
-FoundVersion s at (version.Value v next) = StandsVersion s at v next
-FoundVersion s at version.IllFormed = Unit {0}
+abbrev FoundVersion : List ℕ → ℕ → Option (Version × Cursor) → Type 0
+FoundVersion s at (Some (v, next)) = StandsVersion s at v next
+FoundVersion s at None = Unit {0}
 
 version-found : (s : List ℕ) (at : ℕ) → FoundVersion s at (version_at s at)
 unfolding version_at version_text
 version-found s at =
-    then-cases (FoundVersion s at) version.IllFormed (number_at s at version_part_most) _ tt λ a p ea.
-    then-cases (FoundVersion s at) version.IllFormed (dotted_at s p.at version_part_most) _ tt λ b q eb.
-    then-cases (FoundVersion s at) version.IllFormed (dotted_at s q.at version_part_most) _ tt λ c t ec.
-    then-cases (FoundVersion s at) version.IllFormed (dotted_at s t.at version_last_most) _ tt λ d next ed.
+    then-cases (FoundVersion s at) None (number_at s at version_part_most) _ tt λ a p ea.
+    then-cases (FoundVersion s at) None (dotted_at s p.at version_part_most) _ tt λ b q eb.
+    then-cases (FoundVersion s at) None (dotted_at s q.at version_part_most) _ tt λ c t ec.
+    then-cases (FoundVersion s at) None (dotted_at s t.at version_last_most) _ tt λ d next ed.
     record {
       stands =
           stands-then s at _ _ p.at next.at (number-stands s at version_part_most a p ea)
@@ -184,7 +181,7 @@ version-found s at =
       ends = dotted-ends s t.at version_last_most d next ed;
     }
 
-module _ (s : List ℕ) (at : ℕ) (v : Version) (next : Cursor) (e : version_at s at ≡ version.Value v next) where
+module _ (s : List ℕ) (at : ℕ) (v : Version) (next : Cursor) (e : version_at s at ≡ Some (v, next)) where
   version-there : StandsVersion s at v next
   version-there = rw e at (version-found s at)
 
@@ -196,41 +193,41 @@ module _ (s : List ℕ) (at : ℕ) (v : Version) (next : Cursor) (e : version_at
 
 -- ---- as a whole text
 
-abbrev Whole : ℕ → List ℕ → Number → Type 0
-Whole most s (Value n next) = (s ≡ digits n) × (n ≤ most)
-Whole most s IllFormed = Unit {0}
+abbrev Whole : ℕ → List ℕ → Option (ℕ × Cursor) → Type 0
+Whole most s (Some (n, next)) = (s ≡ digits n) × (n ≤ most)
+Whole most s None = Unit {0}
 
 number-whole : (most : ℕ) (s : List ℕ) → Whole most s (whole_number most s)
 unfolding whole_number
 number-whole most s =
-    then-cases (Whole most s) IllFormed (number_at s 0 most) _ tt λ n next e.
+    then-cases (Whole most s) None (number_at s 0 most) _ tt λ n next e.
     cond_cases (Whole most s) (ltb next.at (length s)) _ _
     (λ _. tt)
     (λ t. (stands-whole s (digits n) next.at (number-stands s 0 most n next e) (ltb-false _ _ t), number-most s 0 most _ n next refl e))
 
 module _ (most : ℕ) (s : List ℕ) (n : ℕ) (next : Cursor) where
-  pub whole-number-written : whole_number most s ≡ Value n next → (s ≡ digits n) × (n ≤ most)
+  pub whole-number-written : whole_number most s ≡ Some (n, next) → (s ≡ digits n) × (n ≤ most)
   whole-number-written e = rw e at (number-whole most s)
 
   -- the limit in the form in which the code knows it: x is a call's result
-  pub whole-number-most : (x : Number) → x ≡ whole_number most s → x ≡ Value n next → n ≤ most
+  pub whole-number-most : (x : Option (ℕ × Cursor)) → x ≡ whole_number most s → x ≡ Some (n, next) → n ≤ most
   whole-number-most x e v = (whole-number-written (sym e ∙ v)).1
 
-abbrev WholeVersion : List ℕ → VersionRead → Type 0
-WholeVersion s (version.Value v next) = (s ≡ version_text v) × (version_within v ≡ true)
-WholeVersion s version.IllFormed = Unit {0}
+abbrev WholeVersion : List ℕ → Option (Version × Cursor) → Type 0
+WholeVersion s (Some (v, next)) = (s ≡ version_text v) × (version_within v ≡ true)
+WholeVersion s None = Unit {0}
 
 version-whole : (s : List ℕ) → WholeVersion s (whole_version s)
 unfolding whole_version
 version-whole s =
-    then-cases-version (WholeVersion s) version.IllFormed (version_at s 0) _ tt λ v next e.
+    then-cases (WholeVersion s) None (version_at s 0) _ tt λ v next e.
     cond_cases (WholeVersion s) (ltb next.at (length s)) _ _
     (λ _. tt)
     (λ t. (stands-whole s (version_text v) next.at (version-stands s 0 v next e) (ltb-false _ _ t), version-limits s 0 _ v next refl e))
 
 module _ (s : List ℕ) (v : Version) (next : Cursor) where
-  pub whole-version-written : whole_version s ≡ version.Value v next → (s ≡ version_text v) × (version_within v ≡ true)
+  pub whole-version-written : whole_version s ≡ Some (v, next) → (s ≡ version_text v) × (version_within v ≡ true)
   whole-version-written e = rw e at (version-whole s)
 
-  pub whole-version-limits : (x : VersionRead) → x ≡ whole_version s → x ≡ version.Value v next → version_within v ≡ true
+  pub whole-version-limits : (x : Option (Version × Cursor)) → x ≡ whole_version s → x ≡ Some (v, next) → version_within v ≡ true
   whole-version-limits x e f = (whole-version-written (sym e ∙ f)).1

@@ -2,17 +2,15 @@
 use Prim.Native.Nat.{ℕ, suc, ◌+◌, ◌-◌, ◌/◌, ◌%◌, ◌≤◌, ◌<◌}
 use mathlib.Core.Path.{◌≡◌, refl, sym, ap, ◌∙◌}
 use mathlib.Core.Logic.{◌≢◌}
-use mathlib.Core.List.{List, [], ◌∷◌, ◌++◌}
+use mathlib.Core.List.{List, [], ◌∷◌, ◌++◌, append_assoc}
 use native.Mathlib.Omega.{arith}
 use native.Mathlib.Nat.{add-zero, add-suc, suc-add}
-use lib.ListN.{length, length-append, set, length-set}
-use lib.Seq.{sets, length-sets, set_comm}
-use Rattle.base.specs.Quoted.{dot}
-use Rattle.text.specs.declared.version.Version.{Version}
+use lib.ListN.{length, take, length-append, set, length-set}
+use lib.Seq.{sets, length-sets, set_comm, sets-eq}
+use borrow.Rule.Slice.PartMut.{put_mid, Post-is}
 use Rattle.text.specs.Digits.{digits}
 use Rattle.text.specs.Put.{Put}
-use Rattle.text.specs.Version.{version_text}
-use Rattle.text.proofs.DigitLaws.{digits-small, digits-large, length-large}
+use Rattle.text.proofs.DigitLaws.{digits-small, digits-large, length-small, length-large}
 
 -- to store xs and then ys behind it is to store xs ++ ys
 pub sets-append : (xs ys l : List ℕ) (i : ℕ) → sets l i (xs ++ ys) ≡ sets (sets l i xs) (i + length xs) ys
@@ -56,6 +54,13 @@ module _ (l : List ℕ) (at : ℕ) where
   pub room_cons : (b : ℕ) (ys : List ℕ) → at + length (b ∷ ys) ≤ length l → at + 1 + length ys ≤ length (set l at b)
   room_cons b ys o = simp length-set (omega arith)
 
+  -- a text copied into a part of the buffer
+  pub put_copied : (xs ys : List ℕ) → at + length xs ≤ length l → ys ≡ xs → Put l at xs (at + length xs) (put_mid at (at + length xs - at) l ys)
+  put_copied xs ys o e = record {
+    behind = refl;
+    bytes = rw (e, Post-is at (at + length xs) l (omega arith)) (sym (append_assoc (take at l) xs _) ∙ sym (sets-eq xs l at o));
+  }
+
 -- ---- digits stored from the last to the first
 
 -- a store behind a run of stores may come first
@@ -77,27 +82,7 @@ pub first-digit : (l l₀ : List ℕ) (at m n w : ℕ) → m < 10 → sets l at 
     → Put l₀ at (digits n) (at + w) (set l at (48 + m))
 first-digit l l₀ at m n w h q p = record { behind = omega arith; bytes = rw (digits-small m h) at q }
 
--- ---- the room that each part of a version has, once the parts before it are put
+-- for `using`, where texts are put one behind the other, and where digits are
+pub ruleset putting = (put-cons, room-first, room_next, room_cons)
 
-module _ (l : List ℕ) (at : ℕ) (v : Version) (o : at + length (version_text v) ≤ length l) where
-  pub room-part-1 : at + length (digits v.first) ≤ length l
-  unfolding version_text
-  room-part-1 = room-first l at (digits v.first) _ o
-
-  module _ (m : List ℕ) (p : ℕ) (f : Put l at (digits v.first) p m) where
-    rest-2 : p + length ((dot ∷ digits v.second) ++ ((dot ∷ digits v.third) ++ (dot ∷ digits v.fourth))) ≤ length m
-    unfolding version_text
-    rest-2 = room_next l at (digits v.first) _ m p o f
-
-    pub room-part-2 : p + length (dot ∷ digits v.second) ≤ length m
-    room-part-2 = room-first m p (dot ∷ digits v.second) _ rest-2
-
-    module _ (k : List ℕ) (q : ℕ) (g : Put m p (dot ∷ digits v.second) q k) where
-      rest-3 : q + length ((dot ∷ digits v.third) ++ (dot ∷ digits v.fourth)) ≤ length k
-      rest-3 = room_next m p (dot ∷ digits v.second) _ k q rest-2 g
-
-      pub room-part-3 : q + length (dot ∷ digits v.third) ≤ length k
-      room-part-3 = room-first k q (dot ∷ digits v.third) _ rest-3
-
-      pub room-part-4 : (j : List ℕ) (t : ℕ) → Put k q (dot ∷ digits v.third) t j → t + length (dot ∷ digits v.fourth) ≤ length j
-      room-part-4 j t h = room_next k q (dot ∷ digits v.third) _ j t rest-3 h
+pub ruleset digits_put = (length-small, length-large, rest-digits, first-digit)

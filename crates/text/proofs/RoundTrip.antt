@@ -8,10 +8,9 @@ use native.Mathlib.Nat.{add_assoc, add-zero, zero-add}
 use lib.ListN.{length, get_or, drop, length-append}
 use lib.Seq.{drop-append_seam, drop-drop, get_or-drop}
 use borrow.Author.Tests.{le-ltb, ne_eqb, lt-leb}
+use Rattle.std.specs.Prelude.{Some}
 use Rattle.base.specs.Quoted.{dot, comma, LF}
-use Rattle.text.specs.declared.number.Number.TheVariants.{Value}
 use Rattle.text.specs.declared.version.Version.{Version}
-use Rattle.text.specs.declared.version.VersionRead.TheVariants as version
 use Rattle.text.specs.Number.{cursor, digit_of, number_goes_on, number_begins, number_at, whole_number}
 use Rattle.text.specs.Version.{version_part_most, version_last_most, version_within, dotted_at, version_at, whole_version, version_text}
 use Rattle.text.specs.Digits.{digits}
@@ -74,16 +73,16 @@ digits-read most p = digits-induction _
       add_assoc,
     ))
 
-number-ended : (most n p : ℕ) (t : List ℕ) → no_digit_first t ≡ true → number_goes_on most n p t ≡ Value n (cursor p)
+number-ended : (most n p : ℕ) (t : List ℕ) → no_digit_first t ≡ true → number_goes_on most n p t ≡ Some (n, cursor p)
 unfolding number_goes_on no_digit_first
 number-ended most n p [] h = refl
 number-ended most n p (b ∷ t) h = rw h
 
 module _ (s : List ℕ) (at : ℕ) (t : List ℕ) (h : no_digit_first t ≡ true) where
-  pub number-back : (most n : ℕ) → n ≤ most → drop at s ≡ digits n ++ t → number_at s at most ≡ Value n (cursor (at + length (digits n)))
+  pub number-back : (most n : ℕ) → n ≤ most → drop at s ≡ digits n ++ t → number_at s at most ≡ Some (n, cursor (at + length (digits n)))
   number-back most n m e = rw (e, digits-read most at n t m) (number-ended most n _ t h)
 
-pub whole-number-back : (most n : ℕ) → n ≤ most → whole_number most (digits n) ≡ Value n (cursor (length (digits n)))
+pub whole-number-back : (most n : ℕ) → n ≤ most → whole_number most (digits n) ≡ Some (n, cursor (length (digits n)))
 unfolding whole_number
 whole-number-back most n m =
     rw (
@@ -96,15 +95,15 @@ whole-number-back most n m =
 
 module _ (s : List ℕ) (at : ℕ) (t : List ℕ) (h : no_digit_first t ≡ true) where
   pub dotted-back : (most n : ℕ) → n ≤ most → drop at s ≡ (dot ∷ digits n) ++ t
-      → dotted_at s at most ≡ Value n (cursor (at + length (dot ∷ digits n)))
+      → dotted_at s at most ≡ Some (n, cursor (at + length (dot ∷ digits n)))
   unfolding dotted_at
   dotted-back most n m e =
       rw (byte-there s at dot _ e)
-      (number-back s (at + 1) t h most n m (drop_past s at (dot ∷ []) _ e) ∙ ap (λ (p : ℕ). Value n (cursor p)) (omega arith))
+      (number-back s (at + 1) t h most n m (drop_past s at (dot ∷ []) _ e) ∙ ap (λ (p : ℕ). Some (n, cursor p)) (omega arith))
 
 module _ (s : List ℕ) (at : ℕ) (t : List ℕ) (h : no_digit_first t ≡ true) where
   pub version-back : (v : Version) → version_within v ≡ true → drop at s ≡ version_text v ++ t
-      → version_at s at ≡ version.Value v (cursor (at + length (version_text v)))
+      → version_at s at ≡ Some (v, cursor (at + length (version_text v)))
   unfolding version_text version_at
   version-back v w e =
       let e₁ : drop at s ≡ digits v.first ++ ((dot ∷ digits v.second) ++ ((dot ∷ digits v.third) ++ ((dot ∷ digits v.fourth) ++ t))) = e ∙ simp append_assoc in
@@ -120,9 +119,9 @@ module _ (s : List ℕ) (at : ℕ) (t : List ℕ) (h : no_digit_first t ≡ true
         dotted-back s p₃ _ (ends-at-dot _) version_part_most v.third (third-within v w) e₃,
         dotted-back s p₄ t h version_last_most v.fourth (fourth-within v w) e₄,
       )
-      (ap (λ (p : ℕ). version.Value v (cursor p)) (simp (length-append, add_assoc)))
+      (ap (λ (p : ℕ). Some (v, cursor p)) (simp (length-append, add_assoc)))
 
-pub whole-version-back : (v : Version) → version_within v ≡ true → whole_version (version_text v) ≡ version.Value v (cursor (length (version_text v)))
+pub whole-version-back : (v : Version) → version_within v ≡ true → whole_version (version_text v) ≡ Some (v, cursor (length (version_text v)))
 unfolding whole_version
 whole-version-back v w =
     rw (

@@ -3,10 +3,10 @@ ghost use Rattle.std.specs.Prelude.{◌≡◌};
 ghost use Rattle.text.specs.Version.{dotted_at, version_at, whole_version};
 
 use crate::cursor::Cursor;
-use crate::number::{Number, number_at};
+use crate::number::number_at;
 
 // The four parts, in the order in which they are written and compared.
-#[derive(Clone, Copy)]
+#[derive(Clone, Copy, PartialEq, Eq, PartialOrd, Ord)]
 pub struct Version {
     pub first: u32,
     pub second: u32,
@@ -28,64 +28,44 @@ pub const VERSION_PART_MOST: u32 = 65535;
 // The largest value of the fourth part, the largest of 32 bits: the one place in the code that has this limit.
 const VERSION_LAST_MOST: u32 = 4294967295;
 
-// What reading a version finds: the version and the cursor behind it.
-#[derive(Clone, Copy)]
-pub enum VersionRead {
-    Value(Version, Cursor),
-    IllFormed,
-}
-
 // Reads a dot and the part of a version behind it, at most as large as most.
-fn dotted_at(s: &[u8], cursor: Cursor, most: u32) -> Number
+#[tactic(auto, unfolding(crate::specs::Version::dotted_at))]
+fn dotted_at(s: &[u8], cursor: Cursor, most: u32) -> Option<(u32, Cursor)>
     ensures { result ≡ dotted_at s.now cursor.at most }
 {
-    let at = cursor.at;
-    if s.len() <= at {
-        return Number::IllFormed;
-    }
-    if s[at] == b'.' {
-        number_at(s, Cursor { at: at + 1 }, most)
+    if *s.get(cursor.at)? == b'.' {
+        number_at(s, Cursor { at: cursor.at + 1 }, most)
     } else {
-        Number::IllFormed
+        None
     }
 }
 
-// Reads the version at a cursor.
-pub fn version_at(s: &[u8], cursor: Cursor) -> VersionRead
+// Reads the version at a cursor: the version, and the cursor behind it.
+#[tactic(auto, unfolding(crate::specs::Version::version_at))]
+pub fn version_at(s: &[u8], cursor: Cursor) -> Option<(Version, Cursor)>
     ensures { result ≡ version_at s.now cursor.at }
 {
-    let Number::Value(first, behind_first) = number_at(s, cursor, VERSION_PART_MOST) else {
-        return VersionRead::IllFormed;
+    let (first, behind_first) = number_at(s, cursor, VERSION_PART_MOST)?;
+    let (second, behind_second) = dotted_at(s, behind_first, VERSION_PART_MOST)?;
+    let (third, behind_third) = dotted_at(s, behind_second, VERSION_PART_MOST)?;
+    let (fourth, next) = dotted_at(s, behind_third, VERSION_LAST_MOST)?;
+    let version = Version {
+        first,
+        second,
+        third,
+        fourth,
     };
-    let Number::Value(second, behind_second) = dotted_at(s, behind_first, VERSION_PART_MOST) else {
-        return VersionRead::IllFormed;
-    };
-    let Number::Value(third, behind_third) = dotted_at(s, behind_second, VERSION_PART_MOST) else {
-        return VersionRead::IllFormed;
-    };
-    let Number::Value(fourth, next) = dotted_at(s, behind_third, VERSION_LAST_MOST) else {
-        return VersionRead::IllFormed;
-    };
-    VersionRead::Value(
-        Version {
-            first,
-            second,
-            third,
-            fourth,
-        },
-        next,
-    )
+    Some((version, next))
 }
 
 // Reads a text that is one version and nothing else.
-pub fn whole_version(s: &[u8]) -> VersionRead
+#[tactic(auto, unfolding(crate::specs::Version::whole_version))]
+pub fn whole_version(s: &[u8]) -> Option<(Version, Cursor)>
     ensures { result ≡ whole_version s.now }
 {
-    let VersionRead::Value(version, next) = version_at(s, Cursor { at: 0 }) else {
-        return VersionRead::IllFormed;
-    };
+    let (version, next) = version_at(s, Cursor { at: 0 })?;
     if next.at < s.len() {
-        return VersionRead::IllFormed;
+        return None;
     }
-    VersionRead::Value(version, next)
+    Some((version, next))
 }

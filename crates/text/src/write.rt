@@ -14,15 +14,13 @@ pub fn put_bytes(buf: &mut [u8], at: usize, text: &[u8]) -> usize
     requires { at + length text.now ≤ length buf.old }
     ensures { Put buf.old at text.now result buf.new }
 {
-    let mut i = 0;
-    while i < text.len() {
-        buf[at + i] = text[i];
-        i += 1;
-    }
-    at + i
+    let end = at + text.len();
+    buf[at..end].copy_from_slice(text);
+    end
 }
 
 // Counts the digits of n.
+#[tactic(auto, using(crate::proofs::DigitLaws::lengths))]
 pub fn number_length(n: u32) -> usize
     ensures { result ≡ length (digits n) }
 {
@@ -36,6 +34,7 @@ pub fn number_length(n: u32) -> usize
 }
 
 // Puts the digits of n, from the last to the first.
+#[tactic(auto, using(crate::proofs::PutLaws::digits_put))]
 pub fn put_number(buf: &mut [u8], at: usize, n: u32) -> usize
     requires { at + length (digits n) ≤ length buf.old }
     ensures { Put buf.old at (digits n) result buf.new }
@@ -53,6 +52,7 @@ pub fn put_number(buf: &mut [u8], at: usize, n: u32) -> usize
 }
 
 // Puts a dot and a number.
+#[tactic(auto, using(crate::proofs::PutLaws::putting))]
 fn put_dotted(buf: &mut [u8], at: usize, n: u32) -> usize
     requires { at + length (dot ∷ digits n) ≤ length buf.old }
     ensures { Put buf.old at (dot ∷ digits n) result buf.new }
@@ -62,6 +62,7 @@ fn put_dotted(buf: &mut [u8], at: usize, n: u32) -> usize
 }
 
 // Counts the bytes of a version as text.
+#[tactic(auto, using(crate::proofs::DigitLaws::few_digits), unfolding(crate::specs::Version::version_text))]
 pub fn version_length(v: Version) -> usize
     ensures { result ≡ length (version_text v) }
 {
@@ -73,6 +74,7 @@ pub fn version_length(v: Version) -> usize
 }
 
 // Puts the four parts, joined by dots.
+#[tactic(auto, using(crate::proofs::PutLaws::putting), unfolding(crate::specs::Version::version_text))]
 pub fn put_version(buf: &mut [u8], at: usize, v: Version) -> usize
     requires { at + length (version_text v) ≤ length buf.old }
     ensures { Put buf.old at (version_text v) result buf.new }

@@ -9,9 +9,11 @@ use native.Mathlib.Omega.{arith}
 use lib.Dec.{ltb}
 use lib.ListN.{length, take}
 use borrow.Author.Tests.{lt-ltb, le-ltb, ltb-true, ltb-false}
-use Rattle.base.specs.Refusals.{first_refusal, number_or_zero}
+use Rattle.std.specs.Prelude.{Result, Ok}
+use Rattle.base.specs.Refusals.{first_refusal}
 use Rattle.base.proofs.Tests.{or_left_false, or_right_false, bool_cases}
-use Rattle.base.proofs.RefusalNumbers.{zero-none}
+use Rattle.refusal.specs.declared.Refusal.{Refusal}
+use Rattle.refusal.specs.Number.{refused_with}
 use Rattle.model.specs.State.{Store}
 use Rattle.model.specs.Areas.{declared, overwritten, block_put}
 use Rattle.model.specs.Areas as areas
@@ -27,6 +29,7 @@ use Rattle.state.specs.View.{view_package, view_packages, view_state}
 use Rattle.state.specs.Exact.{with_block}
 use Rattle.state.specs.Outcome.{Outcome, view_outcome}
 use Rattle.state.proofs.Outcomes.{view-packages}
+use Rattle.state.proofs.Ways.{told-passed}
 use Rattle.areas.specs.Changed.{package_at, with_changed}
 use Rattle.areas.proofs.FoundPackage.{count_fits, FoundAt}
 use Rattle.areas.proofs.ChangedPackage.{view-changed, given-at}
@@ -44,13 +47,13 @@ incorrect-size size received n b within e =
     rw left e
 
 -- where none applies the block has bytes and fits
-pub block-fits : (s : State) (store : Store) (id i counter size n : ℕ) → FoundAt s store id i
-    → n ≡ number_or_zero (first_refusal (data_refusals (view_package (package_at s.transfers i)) counter size)) → n ≡ 0
+pub block-fits : (s : State) (store : Store) (id i counter size : ℕ) (r : Result (Unit {0}) Refusal) (value : Unit {0}) → FoundAt s store id i
+    → refused_with r ≡ first_refusal (data_refusals (view_package (package_at s.transfers i)) counter size) → r ≡ Ok value
     → BlockFits s.transfers i (package_at s.transfers i) (length store) size
-block-fits s store id i counter size n found told zero =
+block-fits s store id i counter size r value found told e =
     let p = package_at s.transfers i in
     let past = ltb p.size (p.received + size) in
-    let passed : ltb size 1 || past ≡ false = first-passed _ _ (rest-passed _ _ (rest-passed _ _ (zero-none _ refl (sym zero ∙ told)))) in
+    let passed : ltb size 1 || past ≡ false = first-passed _ _ (rest-passed _ _ (rest-passed _ _ (told-passed _ _ r told refl value e))) in
     record {
       inside = found.inside;
       some = ltb-false size 1 (or_left_false (ltb size 1) past passed);

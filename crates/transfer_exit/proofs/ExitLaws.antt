@@ -2,12 +2,12 @@
 -- Assumes nothing.
 use Prim.Native.Nat.{ℕ, ◌+◌, ◌-◌}
 use mathlib.Core.Path.{◌≡◌, refl, ◌∙◌}
-use mathlib.Core.Option.{none}
+use mathlib.Core.Option.{Option, none}
 use native.Mathlib.Omega.{arith}
 use lib.ListN.{length, take, drop}
 use Rattle.base.specs.Refusals.{first_refusal}
 use Rattle.manifest.specs.Package.{read_package}
-use Rattle.manifest.specs.Answer.{refusal_number}
+use Rattle.manifest.specs.Refused.{package_refusals}
 use Rattle.model.specs.State.{Store, transferred}
 use Rattle.model.specs.Areas as areas
 use Rattle.model.specs.Sound.{packages_most}
@@ -29,9 +29,10 @@ use Rattle.areas.proofs.ChangedPackage.{view-changed}
 use Rattle.transfer_exit.specs.Exit.{exited}
 
 -- what is read from the start on that was computed, as many bytes as the size, is the area
-pub exit_read : (n start from size : ℕ) (store : Store) → n ≡ refusal_number (read_package (take (start + size - start) (drop start store)))
-    → start ≡ from → n ≡ refusal_number (read_package (take size (drop from store)))
-exit_read n start from size store e same =
+pub exit_read : (x : Option ℕ) (start from size : ℕ) (store : Store)
+    → x ≡ first_refusal (package_refusals (read_package (take (start + size - start) (drop start store))))
+    → start ≡ from → x ≡ first_refusal (package_refusals (read_package (take size (drop from store))))
+exit_read x start from size store e same =
     let whole : start + size - start ≡ size = omega arith in
     e ∙ rw (whole, same)
 

@@ -7,8 +7,10 @@ use mathlib.Core.Option.{none}
 use native.Mathlib.Omega.{arith}
 use lib.ListN.{length}
 use borrow.Author.Tests.{leb-false, ltb-false}
-use Rattle.base.specs.Refusals.{first_refusal, number_or_zero}
-use Rattle.base.proofs.RefusalNumbers.{zero-none}
+use Rattle.std.proofs.Common.{Result, Ok}
+use Rattle.base.specs.Refusals.{first_refusal}
+use Rattle.refusal.specs.declared.Refusal.{Refusal}
+use Rattle.refusal.specs.Number.{refused_with}
 use Rattle.model.specs.State.{Store}
 use Rattle.model.specs.Areas.{declared, free}
 use Rattle.model.specs.Sound.{packages_most, id_most, sound}
@@ -19,14 +21,16 @@ use Rattle.state.specs.declared.state.State.{State}
 use Rattle.state.specs.View.{view_packages, view_state}
 use Rattle.state.specs.Outcome.{view_outcome}
 use Rattle.state.proofs.Views.{view-with-new-package}
+use Rattle.state.proofs.Ways.{told-passed}
 use Rattle.state.proofs.PackagesAlong.{packages-length}
 use Rattle.areas.proofs.FoundPackage.{count_fits}
 use Rattle.transfer_start.specs.Start.{started}
 
 -- where none applies there is room for a package and an id
-module _ (size count free next n : ℕ) (told : n ≡ number_or_zero (first_refusal (start_refusals size count free next))) (zero : n ≡ 0) where
+module _ (size count free next : ℕ) (r : Result (Unit {0}) Refusal) (value : Unit {0})
+    (told : refused_with r ≡ first_refusal (start_refusals size count free next)) (e : r ≡ Ok value) where
   passed : first_refusal (start_refusals size count free next) ≡ none
-  passed = zero-none _ refl (sym zero ∙ told)
+  passed = told-passed _ _ r told refl value e
 
   pub start-room : count < packages_most
   start-room = leb-false _ _ (first-passed _ _ (rest-passed _ _ passed))

@@ -1,4 +1,4 @@
--- An ending by its parts, the ways out of the comparison of the sum, and an ending as the model has it. Assumes nothing.
+-- An ending as the model has it. Assumes nothing.
 use Prim.Native.Nat.{ℕ}
 use mathlib.Core.Path.{◌≡◌, refl, sym, ap, ◌∙◌}
 use mathlib.Core.List.{List, [], ◌∷◌}
@@ -33,24 +33,6 @@ use Rattle.areas.specs.Changed.{package_at, with_changed}
 use Rattle.areas.proofs.FoundPackage.{FoundAt}
 use Rattle.areas.proofs.ChangedPackage.{view-changed}
 use Rattle.work_on_payload.specs.Ending.{phase_after, ended, sum_compared}
-
-module _ (t : Transfers) (i : ℕ) (session : Session) (r : Answered) where
-  pub give_ended : (package_state : PackageState) (answer : Answer) (p : Package) (t' : Transfers) (phase : Phase) (work : Work)
-      → p ≡ in_state package_state (package_at t i) → t' ≡ with_package i p t → phase ≡ phase_after session.count → work ≡ cleared_work
-      → r ≡ answered answer (state phase t' session work) → r ≡ ended t i package_state session answer
-  unfolding ended
-  give_ended package_state answer p t' phase work a b c d e = rw (e, b, a, c, d)
-
-  -- number is what `checksum::number` gave
-  module _ (w : Work) (number : ℕ) (told : number ≡ sum_number w.running_sums) where
-    pub sum-differs : (number ≡ w.sum → ⊥) → r ≡ ended t i packages.Transferred session Inconsistent → r ≡ sum_compared t i session w
-    unfolding sum_compared
-    sum-differs other e = rw (← told) (rw (ne_eqb number w.sum other) e)
-
-    pub sum_same : (session' : Session) → number ≡ w.sum → session' ≡ with_entry session (record { id = (package_at t i).id; action = w.action })
-        → r ≡ ended t i packages.Processed session' Processed → r ≡ sum_compared t i session w
-    unfolding sum_compared
-    sum_same session' same more e = rw (← told) (rw (eq-eqb number w.sum same, ← more) e)
 
 -- ---- in the model
 

@@ -69,7 +69,7 @@ act-on-kept s store n w e = go s.work e
 
 module _ (s : State) (store : Store) (i : ℕ) (here : InProcessing s store i) (ok : sound (view_state s) store ≡ true)
     (long : length s.transfers.packages ≡ packages_most) (long-list : length s.session.entries ≡ entries_most) where
-  abbrev seen : Answered → step.Outcome
+  abbrev seen : Answered Answer → step.Outcome
   seen r = view_outcome (outcome r store)
 
   abbrev id : ℕ
@@ -82,7 +82,7 @@ module _ (s : State) (store : Store) (i : ℕ) (here : InProcessing s store i) (
   list_length = counted-length s.session.entries s.session.count long-list
 
   -- "Cancelled and Inconsistent make the package Transferred again."
-  abbrev left_by : Answer → Answered
+  abbrev left_by : Answer → Answered Answer
   left_by answer = ended s.transfers i packages.Transferred s.session answer
 
   view-left : (answer : Answer) (answer' : calls.Answer) → reply_of answer ≡ calls.accepted answer'
@@ -95,7 +95,7 @@ module _ (s : State) (store : Store) (i : ℕ) (here : InProcessing s store i) (
   abbrev entry : Work → Entry
   entry w = record { id = (package_at s.transfers i).id; action = w.action }
 
-  abbrev processed_with : Work → Answered
+  abbrev processed_with : Work → Answered Answer
   processed_with w = ended s.transfers i packages.Processed (with_entry s.session (entry w)) Processed
 
   view-processed : (w : Work) → seen (processed_with w)

@@ -1,4 +1,4 @@
--- The ways out of Work on a package, and what soundness says before it. Assumes nothing.
+-- Work has no refusal of its own, and what soundness says before it. Assumes nothing.
 use Prim.Native.Nat.{ℕ, ◌≤◌, ◌<◌}
 use mathlib.Core.Path.{◌≡◌, refl, ap, ◌∙◌}
 use mathlib.Core.Bool.{true, false}
@@ -17,6 +17,7 @@ use Rattle.state.specs.declared.package.PackageState.TheVariants.{Transferred}
 use Rattle.state.specs.declared.work.Work.{Work}
 use Rattle.state.specs.declared.state.State.{State}
 use Rattle.state.specs.declared.answer.Answer.TheVariants.{Working, Cancelled}
+use Rattle.state.specs.declared.answer.Answer.{Answer}
 use Rattle.state.specs.declared.answer.Answered.{Answered}
 use Rattle.state.specs.View.{view_packages, view_phase, entries_most, view_state}
 use Rattle.state.specs.Outcome.{outcome, answered}
@@ -29,39 +30,13 @@ use Rattle.work_on_payload.specs.Payload.{work_on}
 use Rattle.work_on_payload.specs.Ending.{ended, sum_compared}
 use Rattle.work_on_payload.specs.Work.{area_at, worked_to, worked_at, worked, WorkFits}
 
--- ---- the ways out
-
-module _ (s : State) (store : Store) (i n : ℕ) (r : Answered) where
-  pub by-cancel : s.work.cancel_noted ≡ true → r ≡ ended s.transfers i Transferred s.session Cancelled → r ≡ worked_at s store i n
-  unfolding worked_at
-  by-cancel noted e = take-first s.work.cancel_noted _ _ r noted e
-
-  -- area is what `area_start` gave, after what `take_payload` gave
-  module _ (area : ℕ) (after : Work) (unnoted : s.work.cancel_noted ≡ false) (start : area ≡ area_at s i)
-      (took : after ≡ work_on s.work n (drop area store)) where
-    goes_on : r ≡ worked_to s i after → r ≡ worked_at s store i n
-    unfolding worked_at
-    goes_on e =
-        take_second s.work.cancel_noted _ _ r unnoted
-        (e ∙ ap (worked_to s i) (took ∙ ap (λ (at : ℕ). work_on s.work n (drop at store)) start))
-
-    pub works-on : (s' : State) → after.done < after.count → s' ≡ with_work after s → r ≡ answered Working s' → r ≡ worked_at s store i n
-    unfolding worked_to
-    works-on s' left e f = goes_on (take-first _ _ _ r (lt-ltb after.done after.count left) (rw (f, e)))
-
-    pub by-sum : after.count ≤ after.done → r ≡ sum_compared s.transfers i s.session after → r ≡ worked_at s store i n
-    unfolding worked_to
-    by-sum nothing_left e = goes_on (take_second _ _ _ r (le-ltb after.done after.count nothing_left) e)
-
--- ---- the call
-
 module _ (s : State) (store : Store) where
   -- Work has no refusal of its own
   pub work-own : (n : ℕ) → first_refusal (own_refusals (view_state s) store (work n)) ≡ none
   unfolding own_refusals first_refusal
   work-own n = refl
 
-  pub work-given : (n i : ℕ) (r : Answered) → r ≡ worked_at s store i n → i ≡ processing_place (view_packages s.transfers)
+  pub work-given : (n i : ℕ) (r : Answered Answer) → r ≡ worked_at s store i n → i ≡ processing_place (view_packages s.transfers)
       → outcome r store ≡ worked s store n
   work-given n i r e at = rw (e, at)
 

@@ -28,7 +28,7 @@ use Rattle.work_on_payload.specs.Work.{area_at, worked_to, worked_at, WorkFits}
 use Rattle.work_on_payload.proofs.WorkLaws.{work-fits}
 
 -- what is given has the room of the arrays, and the beginning table of the state that was handed in
-pub record KeepsRoom (s : State) (given : Answered) : Type 0 where
+pub record KeepsRoom (s : State) (given : Answered Answer) : Type 0 where
   pub packages : length given.state.transfers.packages ≡ packages_most
   pub entries : length given.state.session.entries ≡ entries_most
   pub beginning : given.state.session.beginning ≡ s.session.beginning

@@ -20,13 +20,13 @@ unfoldable pub phase_after : ℕ → Phase
 phase_after count = cond (eqb count 0) Idle Ready
 
 -- each of the three endings: the package at i goes to a state, and "When Processing ends all of these and the cancel note are cleared to 0."
-unfoldable pub ended : Transfers → ℕ → PackageState → Session → Answer → Answered
+unfoldable pub ended : Transfers → ℕ → PackageState → Session → Answer → Answered Answer
 ended t i package_state session answer =
     answered answer (state (phase_after session.count) (with_package i (in_state package_state (package_at t i)) t) session cleared_work)
 
 -- "With none left, answer Inconsistent when the sum differs, else Processed, and the action joins the session's list."; "Cancelled and
 -- Inconsistent make the package Transferred again."
-unfoldable pub sum_compared : Transfers → ℕ → Session → Work → Answered
+unfoldable pub sum_compared : Transfers → ℕ → Session → Work → Answered Answer
 sum_compared t i session w =
     cond (eqb (sum_number w.running_sums) w.sum)
     (ended t i packages.Processed (with_entry session (record { id = (package_at t i).id; action = w.action })) Processed)

@@ -7,6 +7,7 @@ use Rattle.state.specs.declared.package.PackageState.TheVariants.{Transferred}
 use Rattle.state.specs.declared.work.Work.{Work}
 use Rattle.state.specs.declared.state.State.{State}
 use Rattle.state.specs.declared.answer.Answer.TheVariants.{Working, Cancelled}
+use Rattle.state.specs.declared.answer.Answer.{Answer}
 use Rattle.state.specs.declared.answer.Answered.{Answered}
 use Rattle.state.specs.View.{view_packages, entries_most}
 use Rattle.state.specs.Outcome.{Outcome, outcome, answered, called, called_on_sound}
@@ -23,12 +24,12 @@ area_at s i = declared (take i (view_packages s.transfers))
 
 -- "Otherwise, with payload left, answer Working. With none left," the sum is compared: after has the kept values then, and the package at i
 -- is processing
-unfoldable pub worked_to : State → ℕ → Work → Answered
+unfoldable pub worked_to : State → ℕ → Work → Answered Answer
 worked_to s i after =
     cond (ltb after.done after.count) (answered Working (with_work after s)) (sum_compared s.transfers i s.session after)
 
 -- "If a cancel is noted, nothing is taken: answer Cancelled."; "Cancelled and Inconsistent make the package Transferred again."
-unfoldable pub worked_at : State → Store → ℕ → ℕ → Answered
+unfoldable pub worked_at : State → Store → ℕ → ℕ → Answered Answer
 worked_at s store i n =
     cond s.work.cancel_noted
     (ended s.transfers i Transferred s.session Cancelled)

@@ -14,56 +14,58 @@ use state::transfers::{Transfers, with_package};
 use state::work::{Work, cleared_work};
 
 // Gives the manager's state after an ending, by the number of entries of the session's list.
+#[tactic(auto, unfolding(crate::specs::Ending::phase_after))]
 fn phase_after(count: usize) -> Phase
     ensures { result ≡ phase_after count }
 {
     if count == 0 {
-        return Phase::Idle;
+        Phase::Idle
+    } else {
+        Phase::Ready
     }
-    Phase::Ready
 }
 
 // Ends processing: the package at i goes to a state. Precondition: i is below 16; in a sound state the place of the package that is
 // processing meets it.
+#[tactic(auto, unfolding(crate::specs::Ending::ended))]
 pub fn end_processing(
     t: Transfers,
     i: usize,
     package_state: PackageState,
     session: Session,
     answer: Answer,
-) -> Answered
+) -> Answered<Answer>
     requires { i < packages_most }
     ensures { result ≡ ended t i package_state session answer }
 {
-    let p = t.packages[i];
-    let phase = phase_after(session.count);
-    let transfers = with_package(t, i, in_state(p, package_state));
-    let work = cleared_work();
     let ended = State {
-        phase: phase,
-        transfers: transfers,
-        session: session,
-        work: work,
+        phase: phase_after(session.count),
+        transfers: with_package(t, i, in_state(t.packages[i], package_state)),
+        session,
+        work: cleared_work(),
     };
     answer_with(answer, ended)
 }
 
 // Compares the sum when no payload is left, and lists the action of a package that is then Processed. Precondition: i is below 16, the
 // running sums are at most 254 and the list has room; a sound state in Processing meets it, and `take_payload` keeps the sums so.
-pub fn compare_sum(t: Transfers, i: usize, session: Session, w: Work) -> Answered
+#[tactic(auto, unfolding(crate::specs::Ending::sum_compared))]
+pub fn compare_sum(t: Transfers, i: usize, session: Session, w: Work) -> Answered<Answer>
     requires { (i < packages_most) × (sums_within w.running_sums ≡ true) × (session.count < entries_most) }
     ensures { result ≡ sum_compared t i session w }
 {
-    let sums = w.running_sums;
-    if checksum::number(sums) != w.sum {
-        let state = PackageState::Transferred;
-        return end_processing(t, i, state, session, Answer::Inconsistent);
+    if checksum::number(w.running_sums) != w.sum {
+        return end_processing(
+            t,
+            i,
+            PackageState::Transferred,
+            session,
+            Answer::Inconsistent,
+        );
     }
-    let p = t.packages[i];
-    let action = w.action;
     let entry = Entry {
-        id: p.id,
-        action: action,
+        id: t.packages[i].id,
+        action: w.action,
     };
     let listed = with_entry(session, entry);
     end_processing(t, i, PackageState::Processed, listed, Answer::Processed)

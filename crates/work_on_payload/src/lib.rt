@@ -16,27 +16,26 @@ use crate::ending::{compare_sum, end_processing};
 use crate::payload_bytes::take_payload;
 use areas::lookup::processing_place;
 use areas::sizes::area_start;
-use refusal::{BAD_STATE, OPERATION_NOT_PERMITTED};
+use refusal::Refusal;
 use soundness::sound::sound;
-use state::answer::{Answer, Answered, answer_with, refused};
+use state::answer::{Answer, Answered, answer_with, refuse};
 use state::package::PackageState;
 use state::permissions::{WORK, allowed};
 use state::state::{State, with_work};
 
 // Works on the package at i, the one that is processing. A noted cancel comes before any payload. Precondition: its area and payload lie in
 // the store and the session's list has room; a sound state in Processing meets it.
-fn accept_work(s: State, store: &[u8], i: usize, n: u32) -> Answered
+#[tactic(auto, unfolding(crate::specs::Work::worked_at, crate::specs::Work::worked_to))]
+fn accept_work(s: State, store: &[u8], i: usize, n: u32) -> Answered<Answer>
     requires { WorkFits s i (length store.now) }
     ensures { result ≡ worked_at s store.now i n }
 {
     let t = s.transfers;
-    let w = s.work;
     let session = s.session;
-    if w.cancel_noted {
+    if s.work.cancel_noted {
         return end_processing(t, i, PackageState::Transferred, session, Answer::Cancelled);
     }
-    let area = area_start(t, i);
-    let after = take_payload(w, store, area, n);
+    let after = take_payload(s.work, store, area_start(t, i), n);
     if after.done < after.count {
         return answer_with(Answer::Working, with_work(s, after));
     }
@@ -44,27 +43,25 @@ fn accept_work(s: State, store: &[u8], i: usize, n: u32) -> Answered
 }
 
 // Makes the call after refusal 1. Precondition: the state is sound for the store; `work` and `manager::call` check it.
-pub fn work_on_sound(s: State, store: &[u8], n: u32) -> Answered
+pub fn work_on_sound(s: State, store: &[u8], n: u32) -> Answered<Answer>
     requires { sound_for (view_state s) (length store.now) ≡ true }
     ensures { outcome result store.now ≡ work_called_on_sound s store.now n }
 {
-    let phase = s.phase;
-    if !allowed(phase, WORK) {
-        return refused(s, OPERATION_NOT_PERMITTED);
+    if !allowed(s.phase, WORK) {
+        return refuse(s, Refusal::OperationNotPermitted);
     }
-    let t = s.transfers;
-    let i = processing_place(t);
+    let i = processing_place(s.transfers);
     accept_work(s, store, i, n)
 }
 
 // Work(n): takes the next n payload bytes, or what is left, into the sum.
-pub fn work(s: State, store: &[u8], n: u32) -> Answered
+pub fn work(s: State, store: &[u8], n: u32) -> Answered<Answer>
     ensures meaning { view_answered result store.now ≡ step (view_state s) store.now (work n) }
     ensures exact { outcome result store.now ≡ work_called s store.now n }
     ensures sound { SoundIfAccepted (outcome result store.now) }
 {
     if !sound(s, store.len()) {
-        return refused(s, BAD_STATE);
+        return refuse(s, Refusal::BadState);
     }
     work_on_sound(s, store, n)
 }

@@ -13,10 +13,7 @@ fn count_taken(w: Work, n: u32) -> u32
     ensures { result ≡ taken (kept_work w) n }
 {
     let left = w.count - w.done;
-    if n < left {
-        return n;
-    }
-    left
+    if n < left { n } else { left }
 }
 
 // Takes n bytes more of the payload, or what is left of it, into the sum. The package's area starts at the byte `area` of the store.
@@ -28,9 +25,10 @@ pub fn take_payload(w: Work, store: &[u8], area: usize, n: u32) -> Work
 {
     let taken = count_taken(w, n);
     let from = area + w.start as usize + w.done as usize;
-    let sums = w.running_sums;
-    let mut after = w;
-    after.running_sums = checksum::continue_sum(sums, &store[from..from + taken as usize]);
-    after.done = w.done + taken;
-    after
+    let bytes = &store[from..from + taken as usize];
+    Work {
+        running_sums: checksum::continue_sum(w.running_sums, bytes),
+        done: w.done + taken,
+        ..w
+    }
 }

@@ -1,20 +1,21 @@
--- `byte_search::find` meets its contract: each way out of the loop by its law. Assumes nothing.
-use Rattle.std.proofs.Common.{arith}
-use borrow.Author.Tests.{eq-eqb, ne_eqb}
-use Rattle.byte_search.proofs.SearchLaws.{found, passed, ended}
+-- `byte_search::find` meets its contract. Assumes nothing.
+use Rattle.std.proofs.Common.{rules, tests, ◌≡◌, ◌-◌, ℕ, take, drop, position}
+use lib.Dec.{eqb}
+use Rattle.std.proofs.lemmas.Iterator.{YieldsList-from_slice}
+use Rattle.std.proofs.lemmas.Iterator.Search.{position_from_yields_List}
+use Rattle.byte_search.proofs.FirstPlace.{index-found, index-none}
+use Rattle.byte_search.proofs.find.Goals.{After-position}
 use Rattle.byte_search.proofs.find.Goals as goal
 
-pub returns-then-s-i-clause-value : goal.returns-then-s-i-clause-value
-returns-then-s-i-clause-value c =
-    omega (arith, c.loop-i.invariant, c.loop-i-test.true, found c.args.s.now c.args.to c.requires.within c.args.b c.loop-i.i c.loop-i-test.true (eq-eqb _ _ c.if-s-i.true))
+answer : (c : After-position) → c.position.result ≡ position (λ x. eqb x c.args.b) (take (c.args.to - c.args.from) (drop c.args.from c.args.s.now))
+answer c =
+    position_from_yields_List (λ (x : ℕ). eqb x c.args.b) _ _ c.position.result c.position.ensures.ran
+    (YieldsList-from_slice (take (c.args.to - c.args.from) (drop c.args.from c.args.s.now)) (cc)) (λ x b q k. search (rules, tests))
 
-pub loop-i-preserved : goal.loop-i-preserved
-loop-i-preserved c = (
-  omega (arith, c.loop-i.invariant.0),
-  omega (arith, c.loop-i-test.true),
-  omega (arith, c.loop-i.invariant.2, passed c.args.s.now c.args.to c.requires.within c.args.b c.loop-i.i c.loop-i-test.true (ne_eqb _ _ c.if-s-i.false)),
-)
+pub returns-in-Some-clause-value : goal.returns-in-Some-clause-value
+returns-in-Some-clause-value c =
+    index-found c.args.s.now c.args.from c.args.to c.requires.ordered c.requires.within c.args.b _ (answer (goal.at.returns-in-Some-clause-value c).After-position) c.in-Some.i c.in-Some.is
 
-pub returns-clause-value : goal.returns-clause-value
-returns-clause-value c =
-    omega (arith, c.loop-i.invariant.2, ended c.args.s.now c.args.to c.requires.within c.args.b c.loop-i.i c.loop-i-test.false)
+pub returns-in-None-clause-value : goal.returns-in-None-clause-value
+returns-in-None-clause-value c =
+    index-none c.args.s.now c.args.from c.args.to c.requires.ordered c.requires.within c.args.b _ (answer (goal.at.returns-in-None-clause-value c).After-position) c.in-None.is

@@ -1,61 +1,36 @@
--- `call_list::make_all` meets its contract. The loop's invariant is `MadeSoFar`: the calls of the words before i were made, their answers
--- stand before `at`, what is left of the words is a list of calls, and the state is sound for the store exactly if it was before the first
--- call, which was checked. The measure is the number of words left. Assumes nothing.
-use Prim.Native.Nat.{◌+◌, ◌^◌, ◌≤◌, ◌<◌}
+-- `call_list::make_all` meets its contract. The loop's invariant is `MadeSoFar`: the calls of the rows before i were made, their answers are
+-- written, what is left of the rows is a list of calls, and the state is sound for the store exactly if it was before the first call, which
+-- was checked. Assumes nothing.
+use Prim.Native.Nat.{◌*◌, ◌≤◌}
 use native.Mathlib.Omega.{arith}
 use lib.ListN.{length}
-use Rattle.call_list.proofs.ListLaws.{none_so_far, sound-still, row-left, room-left, one_more, all_made}
+use Rattle.call_list.proofs.ListLaws.{sound-still, room-left, one_more, made-begins, made-ends}
 use Rattle.call_list.proofs.make_all.Goals.{In-loop-i}
 use Rattle.call_list.proofs.make_all.Goals as goal
 
--- at the head of a turn: a whole row is left, and room for its answer
-row_here : (c : In-loop-i) → (c.loop-i.i + 6 ≤ length c.args.words.now)
-row_here c =
-    let l = c.loop-i in
-    row-left _ _ _ _ _ l.state l.store l.answers l.i l.at l.invariant c.loop-i-test.true
-
-room-here : (c : In-loop-i) → c.loop-i.at + 2 ≤ length c.loop-i.answers
-room-here c =
-    let l = c.loop-i in
-    room-left _ _ _ _ _ l.state l.store l.answers l.i l.at l.invariant c.loop-i-test.true c.requires.words_in_bounds
-
--- the next places fit. It is said here, because behind the call `omega` does not look so far back
-places-fit : (c : In-loop-i) → (c.loop-i.i + 6 < 2 ^ 64) × (c.loop-i.at + 2 < 2 ^ 64)
-places-fit c =
-    let h = row_here c in
-    let k = room-here c in
-    let e = c.loop-i.invariant.answers-long in
-    (omega arith, omega arith)
+-- room for two words for each row
+room : (c : In-loop-i) → 2 * length c.as_chunks.result.0.now ≤ length c.args.answers.now
+room c = omega (arith, c.requires.words_in_bounds, c.as_chunks.ensures.front_len)
 
 pub loop-i-init : goal.loop-i-init
-loop-i-init c = none_so_far _ _ _ _ _ c.requires.bytes_value
+loop-i-init c = made-begins _ _ _ c.as_chunks.ensures.front c.requires.bytes_value _ _ _
 
-pub row_at-requires : goal.row_at-requires
-row_at-requires c = row_here (goal.at.row_at-requires c).In-loop-i
-
-pub make_call-r-requires : goal.make_call-r-requires
-make_call-r-requires c =
+pub make_call-made-requires : goal.make_call-made-requires
+make_call-made-requires c =
     let l = c.loop-i in
-    sound-still _ _ _ _ _ l.state l.store l.answers l.i l.at l.invariant _ c.sound-is_sound.ensures
+    sound-still _ _ _ _ _ l.state l.store l.answers l.i l.invariant _ c.sound-is_sound.ensures
 
 pub put_answer-requires : goal.put_answer-requires
-put_answer-requires c = room-here (goal.at.put_answer-requires c).In-loop-i
-
-pub overflow_add-i : goal.overflow_add-i
-overflow_add-i c = omega (arith, places-fit (goal.at.overflow_add-i c).In-loop-i)
-
-pub overflow_add-at : goal.overflow_add-at
-overflow_add-at c = omega (arith, places-fit (goal.at.overflow_add-at c).In-loop-i)
-
-pub loop-i-smaller : goal.loop-i-smaller
-loop-i-smaller c = omega (arith, row_here (goal.at.loop-i-smaller c).In-loop-i)
+put_answer-requires c =
+    let l = c.loop-i in
+    room-left _ _ _ _ _ l.state l.store l.answers l.i l.invariant c.loop-i-test.true (room (goal.at.put_answer-requires c).In-loop-i)
 
 pub loop-i-preserved : goal.loop-i-preserved
 loop-i-preserved c =
     let l = c.loop-i in
-    one_more _ _ _ _ _ l.state l.store l.answers l.i l.at l.invariant c.loop-i-test.true c.requires.words_in_bounds _ c.row_at.ensures c.make_call-r.result _ c.make_call-r.auto.store c.make_call-r.ensures _ c.put_answer.ensures
+    one_more _ _ _ _ _ l.state l.store l.answers l.i l.invariant c.loop-i-test.true (room (goal.at.loop-i-preserved c).In-loop-i) _ c.from.ensures c.make_call-made.result _ c.make_call-made.auto.store c.make_call-made.ensures _ c.put_answer.ensures
 
 pub returns : goal.returns
 returns c =
     let l = c.loop-i in
-    all_made _ _ _ _ _ l.state l.store l.answers l.i l.at l.invariant c.loop-i-test.false
+    made-ends _ _ _ c.as_chunks.ensures.front c.requires.bytes_value _ _ _ l.state l.store l.answers l.i l.invariant c.loop-i-test.false

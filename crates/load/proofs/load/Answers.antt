@@ -19,7 +19,7 @@ returns-then-first-lt1 c =
 pub returns-in_default : goal.returns-in_default
 returns-in_default c =
     let a = c.args in
-    let told = promised _ _ _ _ _ _ (ill-refused a.s a.list.now a.first a.store.now _ c.refused-in_default.ensures _ c.read_list-read.ensures.meaning c.in_default.is) in
+    let told = promised _ _ _ _ _ _ (ill-refused a.s a.list.now a.first a.store.now _ c.refused-in_default.ensures _ c.read_list.ensures.meaning c.in_default.is) in
     record { meaning = told.0; exact = told.1.0; sound = told.1.1 }
 
 pub returns : goal.returns
@@ -27,5 +27,5 @@ returns c =
     let a = c.args in
     let told =
     promised _ _ _ _ _ _
-    (loads a.s a.list.now a.first a.store.now _ _ _ _ c.if-store-gt-STORE_MOST.false c.if-first-lt1.false (omega arith) c.read_list-read.ensures.meaning c.read_list-read.ensures.exact c.in-WellFormed.is c.loaded_state-loaded.ensures c.clear.ensures c.answer_with.ensures) in
+    (loads a.s a.list.now a.first a.store.now _ _ _ _ _ c.if-store-gt-STORE_MOST.false c.if-first-lt1.false (omega arith) c.read_list.ensures.meaning c.read_list.ensures.exact c.in-Some.is c.loaded_state-loaded.ensures c.clear.ensures c.answer_with.ensures) in
     record { meaning = told.0; exact = told.1.0; sound = told.1.1 }

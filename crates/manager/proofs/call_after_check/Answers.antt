@@ -23,7 +23,7 @@ three c given exact = clauses _ _ _ _ _ exact (search (view-accepts, shaped c))
 
 pub returns-then-not-is_sound : goal.returns-then-not-is_sound
 returns-then-not-is_sound c =
-    let told = three (goal.at.returns-then-not-is_sound c).Start (outcome c.refused.result c.args.store.now) (search ways) in
+    let told = three (goal.at.returns-then-not-is_sound c).Start (outcome c.refuse.result c.args.store.now) (search ways) in
     record { meaning = told.0; exact = told.1.0; sound = told.1.1 }
 
 pub call_on_sound-requires : goal.call_on_sound-requires

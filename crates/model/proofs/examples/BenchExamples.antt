@@ -6,7 +6,7 @@ use mathlib.Core.List.{List, [], ◌∷◌, ◌++◌}
 use lib.ListN.{length}
 use Rattle.base.specs.Quoted.{bytes}
 use Rattle.checksum.specs.Sum.{sum_of}
-use Rattle.text.specs.declared.version.VersionRead.TheVariants.{Value, IllFormed}
+use Rattle.std.specs.Prelude.{Some, None}
 use Rattle.text.specs.Number.{cursor}
 use Rattle.text.specs.Version.{whole_version}
 use Rattle.text.specs.Version.{version}
@@ -46,11 +46,11 @@ pub record BenchExamples : Type 0 where
   -- "M3 1.0.0.10 is above 1.0.0.9."
   pub m3 : above (version 1 0 0 10) (version 1 0 0 9) ≡ true
   -- "M4 01.0.0.0 isn't a version."
-  pub m4 : whole_version (bytes "01.0.0.0") ≡ IllFormed
+  pub m4 : whole_version (bytes "01.0.0.0") ≡ None
   -- A.7: "M5 reads: 65536.0.0.0 isn't a version, 0.0.0.4294967295 is and 0.0.0.4294967296 isn't."
-  pub m5 : (whole_version (bytes "65536.0.0.0") ≡ IllFormed)
-      × (whole_version (bytes "0.0.0.4294967295") ≡ Value (version 0 0 0 4294967295) (cursor 16))
-      × (whole_version (bytes "0.0.0.4294967296") ≡ IllFormed)
+  pub m5 : (whole_version (bytes "65536.0.0.0") ≡ None)
+      × (whole_version (bytes "0.0.0.4294967295") ≡ Some (version 0 0 0 4294967295, cursor 16))
+      × (whole_version (bytes "0.0.0.4294967296") ≡ None)
   -- "M6 a store of 100 with 91 declared takes 9, refuses 10 by 17."
   pub m6 : Hold
       (from loaded calls (transfer_start 91 gives given_id 1 ∷ transfer_start 9 gives given_id 2 ∷ [])

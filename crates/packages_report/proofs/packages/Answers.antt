@@ -1,19 +1,26 @@
--- `packages_report::packages` meets its contract: what the report says of the list is what is written. Assumes nothing.
-use Rattle.std.proofs.Common.{rules, ◌≡◌, length}
-use mathlib.Core.Path.{refl}
-use Rattle.base.proofs.Counted.{unmapped}
-use Rattle.model.specs.Sound.{packages_most}
-use Rattle.packages_report.proofs.Reported.{packages-given}
-use Rattle.packages_report.proofs.packages.Goals.{Start}
+-- `packages_report::packages` meets its contract: 1 of an unsound state, and of a sound one the report behind it. Assumes nothing.
+use mathlib.Core.Path.{◌≡◌, ap, ◌∙◌, sym}
+use mathlib.Core.Bool.{not}
+use Rattle.base.proofs.Ladder.{told-yes}
+use Rattle.model.specs.Reading.{packages_report}
+use Rattle.areas.proofs.FoundPackage.{count_fits}
+use Rattle.reading_reply.specs.declared.ReadingReply.TheVariants.{Refused}
+use Rattle.reading_reply.proofs.ReportLaws.{refuse-unsound-report, pass-sound-report}
+use Rattle.packages_report.proofs.Reported.{exactly, viewed}
 use Rattle.packages_report.proofs.packages.Goals as goal
 
-long : (c : Start) → length c.args.s.transfers.packages ≡ packages_most
-long c = search (rules, unmapped)
+pub returns-then-not-sound : goal.returns-then-not-sound
+unfolding packages_report
+returns-then-not-sound c = record {
+  meaning = refuse-unsound-report _ _ _ _ _ c.sound.ensures (ap not c.if-not-sound.true);
+  exact = exactly c.args.s c.args.store.now (Refused 1) _ _ (refuse-unsound-report _ _ _ _ _ c.sound.ensures (ap not c.if-not-sound.true));
+}
 
-pub returns-clause-meaning : goal.returns-clause-meaning
-returns-clause-meaning c =
-    (packages-given c.args.s (long (goal.at.returns-clause-meaning c).Start) c.args.list.now c.args.store.now _ _ _ (c.report_within-report.ensures c.args.store.now refl) c.fill.ensures.0 c.fill.ensures.1).0
+pub report_records-requires : goal.report_records-requires
+report_records-requires c = count_fits c.args.s c.args.store.now (sym c.sound.ensures ∙ c.if-not-sound.false)
 
-pub returns-clause-exact : goal.returns-clause-exact
-returns-clause-exact c =
-    (packages-given c.args.s (long (goal.at.returns-clause-exact c).Start) c.args.list.now c.args.store.now _ _ _ (c.report_within-report.ensures c.args.store.now refl) c.fill.ensures.0 c.fill.ensures.1).1
+pub returns : goal.returns
+returns c =
+    let few = count_fits c.args.s c.args.store.now (sym c.sound.ensures ∙ c.if-not-sound.false) in
+    let report = pass-sound-report _ _ _ _ _ c.sound.ensures _ (ap not c.if-not-sound.false) c.report_records.ensures in
+    record { meaning = viewed c.args.s c.args.store.now _ _ _ report few; exact = exactly c.args.s c.args.store.now _ _ _ report }

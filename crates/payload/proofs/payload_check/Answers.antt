@@ -4,7 +4,7 @@ use Rattle.payload.proofs.PayloadLaws.{unsound-check, sound-check}
 use Rattle.payload.proofs.payload_check.Goals as goal
 
 pub returns-then-not-sound : goal.returns-then-not-sound
-returns-then-not-sound c = unsound-check _ _ _ (told _ _ _ c.sound.ensures c.if-not-sound.true)
+returns-then-not-sound c = unsound-check _ _ _ _ (told _ _ _ c.sound.ensures c.if-not-sound.true) c.number.ensures
 
 pub payload_check_on_sound-requires : goal.payload_check_on_sound-requires
 payload_check_on_sound-requires c = told _ _ _ c.sound.ensures c.if-not-sound.false

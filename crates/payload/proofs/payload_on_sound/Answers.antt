@@ -1,33 +1,37 @@
 -- `payload::payload_on_sound` meets its contract: the part of the store at the place. Assumes nothing.
-use mathlib.Core.Path.{◌≡◌, refl}
+use mathlib.Core.Path.{◌≡◌, refl, sym}
 use Prim.Native.Nat.{◌+◌, ◌≤◌}
 use lib.ListN.{length}
+use borrow.Author.Rules.{rules}
+use Rattle.std.proofs.lemmas.Result.{IfOk-at_ok}
 use Rattle.state.specs.View.{view_state}
 use Rattle.areas.proofs.FoundPackage.{areas-fit}
-use Rattle.payload.specs.Place.{place_on_sound}
-use Rattle.payload.proofs.PayloadLaws.{sound-place, place-lies}
+use Rattle.payload.specs.Place.{no_place, place_on_sound}
+use Rattle.payload.proofs.PayloadLaws.{sound-place, place-lies, refused-place}
 use Rattle.payload.proofs.Parts.{part_at}
-use borrow.Author.Rules.{rules}
-use Rattle.payload.proofs.payload_on_sound.Goals.{After-payload_place-place}
+use Rattle.payload.proofs.payload_on_sound.Goals.{In-Ok}
 use Rattle.payload.proofs.payload_on_sound.Goals as goal
 
 -- the place that the code found, which lies in the store
-place_found : (c : After-payload_place-place) → (c.payload_place-place.result ≡ place_on_sound (view_state c.args.s) c.args.store.now c.args.id)
-place_found c = c.payload_place-place.ensures (view_state c.args.s) refl
+place_found : (c : In-Ok) → (c.in-Ok.place ≡ place_on_sound (view_state c.args.s) c.args.store.now c.args.id)
+place_found c = IfOk-at_ok _ c.in-Ok.is (c.payload_place.ensures.place (view_state c.args.s) refl)
 
-lies : (c : After-payload_place-place) → (c.payload_place-place.result.start + c.payload_place-place.result.count ≤ length c.args.store.now)
+lies : (c : In-Ok) → (c.in-Ok.place.start + c.in-Ok.place.count ≤ length c.args.store.now)
 lies c =
     rw (place_found c, sound-place (view_state c.args.s) c.args.store.now c.args.id c.requires) (place-lies (view_state c.args.s) c.args.store.now c.args.id).inside
 
-pub payload_place-place-requires : goal.payload_place-place-requires
-payload_place-place-requires c =
-    areas-fit c.args.s c.args.store.now c.requires
+pub payload_place-requires : goal.payload_place-requires
+payload_place-requires c = areas-fit c.args.s c.args.store.now c.requires
 
-pub overflow_add-end : goal.overflow_add-end
-overflow_add-end c = let h = lies (goal.at.overflow_add-end c).After-payload_place-place in search rules
+pub overflow_add-result : goal.overflow_add-result
+overflow_add-result c = let h = lies (goal.at.overflow_add-result c).In-Ok in search rules
 
 pub slice_bounds-result-end : goal.slice_bounds-result-end
-slice_bounds-result-end c = lies (goal.at.slice_bounds-result-end c).After-payload_place-place
+slice_bounds-result-end c = lies (goal.at.slice_bounds-result-end c).In-Ok
 
-pub returns : goal.returns
-returns c = part_at _ _ _ (place_found (goal.at.returns c).After-payload_place-place)
+pub returns-in-Ok : goal.returns-in-Ok
+returns-in-Ok c = part_at _ _ _ (place_found (goal.at.returns-in-Ok c).In-Ok)
+
+pub returns-in-Err : goal.returns-in-Err
+returns-in-Err c =
+    part_at _ no_place _ (sym (refused-place _ _ _ _ (rw c.in-Err.is at (c.payload_place.ensures.refused (view_state c.args.s) refl))))

@@ -8,6 +8,6 @@ pub returns-then-w-eq0 : goal.returns-then-w-eq0
 unfolding progress_of
 returns-then-w-eq0 c = search ladder
 
-pub returns : goal.returns
+pub returns-else-w-eq0 : goal.returns-else-w-eq0
 unfolding progress_of
-returns c = search ladder
+returns-else-w-eq0 c = search ladder

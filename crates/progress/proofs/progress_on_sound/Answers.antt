@@ -1,10 +1,11 @@
--- `progress::progress_on_sound` meets its contract: 0 outside Processing, in it the percentage. Assumes nothing.
-use borrow.Author.Rules.{rules}
+-- `progress::progress_on_sound` meets its contract: in Processing the percentage, outside it 0. Assumes nothing.
+use mathlib.Core.Path.{◌∙◌}
+use Rattle.state.proofs.Tests.{same-phase}
 use Rattle.progress.proofs.KeptProgress.{outside, inside}
 use Rattle.progress.proofs.progress_on_sound.Goals as goal
 
-pub returns-then-not-is_processing : goal.returns-then-not-is_processing
-returns-then-not-is_processing c = search outside
+pub returns-then-eq : goal.returns-then-eq
+returns-then-eq c = search (inside, c.eq.ensures ∙ same-phase c.args.s.phase)
 
-pub returns : goal.returns
-returns c = search inside
+pub returns-else-eq : goal.returns-else-eq
+returns-else-eq c = search (outside, c.eq.ensures ∙ same-phase c.args.s.phase)

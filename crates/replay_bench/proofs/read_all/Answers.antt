@@ -1,4 +1,4 @@
--- `replay_bench::read_all` is safe and ends. The invariant: the buffers keep their lengths. The measure is the number of turns left. Assumes nothing.
+-- `replay_bench::read_all` is safe and ends. The invariant: the buffers keep their lengths. Assumes nothing.
 use native.Mathlib.Omega.{arith}
 use borrow.Author.Tests.{not-false}
 use Rattle.replay_bench.proofs.read_all.Goals as goal

@@ -7,6 +7,6 @@ pub returns-then-runs_staged : goal.returns-then-runs_staged
 unfolding running_table
 returns-then-runs_staged c = search told-ladder
 
-pub returns : goal.returns
+pub returns-else-runs_staged : goal.returns-else-runs_staged
 unfolding running_table
-returns c = search told-ladder
+returns-else-runs_staged c = search told-ladder

@@ -7,40 +7,47 @@ use lib.ListN.{length}
 use Rattle.base.proofs.Counted.{unmapped}
 use Rattle.model.specs.Sound.{packages_most}
 use Rattle.model.specs.Step.{own_refusals}
-use Rattle.state.proofs.Ways.{ways}
-use Rattle.areas.proofs.FoundPackage.{count_fits, FoundAt, found_at, refuse-named, pass-named}
+use Rattle.state.proofs.Ways.{refuse-checked, accept, told-own, told-passed}
+use Rattle.areas.proofs.FoundPackage.{count_fits, FoundAt, found_at, place-named, refuse-named, pass-named}
 use Rattle.transfer_data.proofs.DataLaws.{block-fits, data-own, data-given}
-use Rattle.transfer_data.proofs.transfer_data_on_sound.Goals.{Else-number-ne0, Start}
+use Rattle.transfer_data.proofs.transfer_data_on_sound.Goals.{In-Ok, Start}
 use Rattle.transfer_data.proofs.transfer_data_on_sound.Goals as goal
 
 long : (c : Start) → length c.args.s.transfers.packages ≡ packages_most
 long c = search (rules, unmapped)
 
-found : (c : Else-number-ne0) → (FoundAt c.args.s c.args.store.now c.args.id c.named_package-named.result.place)
+found : (c : In-Ok) → (FoundAt c.args.s c.args.store.now c.args.id c.in-Ok.i)
 found c =
-    found_at _ _ _ _ _ c.requires (long c.before.before.before.before.before.before) refl (c.named_package-named.ensures.place (search rules))
+    found_at _ _ _ _ _ c.requires (long c.before.before.before.before.before.before) refl (place-named _ _ _ _ c.named_package.ensures.place c.in-Ok.is)
 
-pub named_package-named-requires : goal.named_package-named-requires
-named_package-named-requires c = search count_fits
+pub named_package-requires : goal.named_package-requires
+named_package-requires c = search count_fits
 
-pub returns-then-number-ne0 : goal.returns-then-number-ne0
+pub returns-in-Err : goal.returns-in-Err
 unfolding own_refusals
-returns-then-number-ne0 c = refuse-named _ _ _ _ _ _ refl c.named_package-named.ensures.number _ _ refl (search rules) (search rules)
+returns-in-Err c = refuse-named _ _ _ _ _ _ refl c.named_package.ensures.refused _ _ _ refl c.in-Err.is c.refuse.ensures
 
 pub offset_bounds-t-i : goal.offset_bounds-t-i
-offset_bounds-t-i c = let h = found (goal.at.offset_bounds-t-i c).Else-number-ne0 in search rules
+offset_bounds-t-i c = let h = found (goal.at.offset_bounds-t-i c).In-Ok in search rules
 
 pub bounds-t-i : goal.bounds-t-i
-bounds-t-i c = let h = found (goal.at.bounds-t-i c).Else-number-ne0 in omega arith
+bounds-t-i c = let h = found (goal.at.bounds-t-i c).In-Ok in omega arith
 
-pub data_refusal-refusal-requires : goal.data_refusal-refusal-requires
-data_refusal-refusal-requires c = (found (goal.at.data_refusal-refusal-requires c).Else-number-ne0).received
+pub data_refusal-requires : goal.data_refusal-requires
+data_refusal-requires c = (found (goal.at.data_refusal-requires c).In-Ok).received
 
-pub returns-then-refusal-ne0 : goal.returns-then-refusal-ne0
-returns-then-refusal-ne0 c = search (ways, pass-named, data-own, (found (goal.at.returns-then-refusal-ne0 c).Else-number-ne0))
+pub returns-in-Err-data_refusal : goal.returns-in-Err-data_refusal
+returns-in-Err-data_refusal c =
+    let f = found (goal.at.returns-in-Err-data_refusal c).In-Ok in
+    pass-named _ _ _ _ _ _ refl c.named_package.ensures.refused _ _ c.in-Ok.is
+    (refuse-checked _ _ _ c.data_refusal.result _ _ _ (told-own _ _ _ c.data_refusal.ensures (data-own _ _ _ _ _ _ f)) c.in-Err-data_refusal.is c.refuse-in-Err-data_refusal.ensures)
 
 pub accept_block-requires : goal.accept_block-requires
-accept_block-requires c = search (block-fits, found (goal.at.accept_block-requires c).Else-number-ne0)
+accept_block-requires c =
+    block-fits _ _ _ _ _ _ _ _ (found (goal.at.accept_block-requires c).In-Ok) c.data_refusal.ensures c.in_default.is
 
 pub returns : goal.returns
-returns c = search (ways, pass-named, data-own, block-fits, data-given, found (goal.at.returns c).Else-number-ne0)
+returns c =
+    let f = found (goal.at.returns c).In-Ok in
+    pass-named _ _ _ _ _ _ refl c.named_package.ensures.refused _ _ c.in-Ok.is
+    (accept _ _ _ _ _ (told-passed _ _ _ c.data_refusal.ensures (data-own _ _ _ _ _ _ f) _ c.in_default.is) (data-given _ _ _ _ _ _ f (block-fits _ _ _ _ _ _ _ _ f c.data_refusal.ensures c.in_default.is) c.accept_block.ensures))

@@ -4,7 +4,7 @@ use mathlib.Core.Path.{◌≡◌}
 use lib.ListN.{length}
 use Rattle.base.proofs.Counted.{unmapped}
 use Rattle.model.specs.Sound.{packages_most}
-use Rattle.state.proofs.Ways.{ways}
+use Rattle.state.proofs.Ways.{ways, told-passed}
 use Rattle.areas.proofs.FoundPackage.{count_fits}
 use Rattle.transfer_start.proofs.StartLaws.{start-room, start-id, start-own}
 use Rattle.transfer_start.proofs.transfer_start_on_sound.Goals.{Start}
@@ -19,14 +19,19 @@ returns-then-not-allowed c = search ways
 pub free_bytes-requires : goal.free_bytes-requires
 free_bytes-requires c = search count_fits
 
-pub returns-then-number-ne0 : goal.returns-then-number-ne0
-returns-then-number-ne0 c = search (ways, start-own, (long (goal.at.returns-then-number-ne0 c).Start))
+pub returns-in-Err : goal.returns-in-Err
+returns-in-Err c = search (ways, start-own, (long (goal.at.returns-in-Err c).Start))
 
-pub overflow_cast-next : goal.overflow_cast-next
-overflow_cast-next c = search start-id
+pub overflow_cast-t : goal.overflow_cast-t
+overflow_cast-t c = search start-id
 
 pub with_new_package-requires : goal.with_new_package-requires
 with_new_package-requires c = search (start-room, start-id)
 
 pub returns : goal.returns
-returns c = search (ways, start-own, (long (goal.at.returns c).Start))
+returns c =
+    search (
+      ways,
+      start-own,
+      told-passed _ _ c.start_refusal.result c.start_refusal.ensures (start-own c.args.s c.args.store.now c.args.size (long (goal.at.returns c).Start) c.free_bytes.result c.requires c.free_bytes.ensures) _ c.in_default.is,
+    )

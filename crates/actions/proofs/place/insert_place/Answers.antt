@@ -1,37 +1,33 @@
--- `actions::place::insert_place` meets its contract. The loop's invariant: the place for the whole table is the place for
--- what stands from i on. The measure is what is left of the clusters. Assumes nothing.
-use borrow.Author.Rules.{rules}
-use native.Mathlib.Omega.{arith}
-use mathlib.Core.Path.{◌≡◌, sym, ap, ◌∙◌}
-use mathlib.Core.List.{◌∷◌}
-use Prim.Native.Nat.{◌+◌}
-use lib.ListN.{length, drop, get_or}
-use borrow.Author.Tests.{lt-ltb, le-ltb}
+-- `actions::place::insert_place` meets its contract: the place among the clusters that count is that in the table. Assumes nothing.
+use Rattle.std.proofs.Common.{rules, tests, ◌≡◌, ◌∙◌, ◌+◌, sym, ap, ap₂, length, take, ℕ, unwrap_or, arith, Option}
+use borrow.Author.Rules.{rules as borrow_rules}
+use lib.Dec.{ltb}
+use Rattle.std.specs.List.{position_from}
+use Rattle.std.proofs.lemmas.Iterator.{YieldsList-from_slice}
 use Rattle.base.proofs.Counted.{unmapped}
-use Rattle.clusters.specs.Table.{Table}
-use Rattle.clusters.specs.View.{no_cluster, view_cluster, view_table}
-use Rattle.actions.specs.Place.{insert_place_from}
-use Rattle.clusters.proofs.Along.{table_step, table-end}
-use Rattle.actions.proofs.place.insert_place.Goals.{In-loop-i, Start}
+use Rattle.place_in_list.proofs.Placed.{position-place, place-in-map}
+use Rattle.clusters.specs.declared.cluster.Cluster.{Cluster as ClusterStruct}
+use Rattle.clusters.specs.Cluster.{Cluster}
+use Rattle.clusters.specs.View.{view_cluster, view_table}
+use Rattle.clusters.proofs.Along.{view-few, table-length}
+use Rattle.actions.proofs.Placing.{insert-place-is, insert-place-low}
+use Rattle.actions.proofs.place.insert_place.Goals.{Start}
 use Rattle.actions.proofs.place.insert_place.Goals as goal
 
 long : (c : Start) → length c.args.t.clusters ≡ 64
-long c = search (rules, unmapped)
-
-step : (c : In-loop-i) → (let i = c.loop-i.i in
-    insert_place_from 0 c.args.part (view_table c.args.t) ≡ insert_place_from i c.args.part (view_cluster (get_or c.args.t.clusters i no_cluster) ∷ drop (i + 1) (view_table c.args.t)))
-step c =
-    c.loop-i.invariant.1 ∙ ap (λ (l : Table). insert_place_from c.loop-i.i c.args.part l) (table_step c.args.t c.requires (long c.before.before) c.loop-i.i (omega arith))
-
-pub returns-then-part-c : goal.returns-then-part-c
-unfolding insert_place_from
-returns-then-part-c c = (omega arith, sym (step (goal.at.returns-then-part-c c).In-loop-i ∙ simp (lt-ltb _ _ c.if-part-c.true)))
-
-pub loop-i-preserved : goal.loop-i-preserved
-unfolding insert_place_from
-loop-i-preserved c = (omega arith, step (goal.at.loop-i-preserved c).In-loop-i ∙ simp (le-ltb _ _ c.if-part-c.false))
+long c = search (borrow_rules, unmapped)
 
 pub returns : goal.returns
-unfolding insert_place_from
 returns c =
-    (c.loop-i.invariant.0, sym (c.loop-i.invariant.1 ∙ rw (table-end c.args.t c.requires (long (goal.at.returns c).Start) c.loop-i.i c.loop-i-test.false)))
+    let t = c.args.t in
+    let part = c.args.part in
+    let first = take t.count t.clusters in
+    let larger = λ (c : Cluster). ltb part c.part in
+    let all : length (view_table t) ≡ t.count = table-length t c.requires (long (goal.at.returns c).Start) in
+    let behind : t.count ≡ 0 + length (view_table t) = omega arith in
+    let place =
+    position-place (λ (c : ClusterStruct). ltb part c.part) _ _ c.position.result c.position.ensures.ran
+    (YieldsList-from_slice (take t.count t.clusters) (cc)) (λ x b q k. search (rules, tests))
+    ∙ sym (ap (position_from larger 0) (view-few t c.requires) ∙ place-in-map view_cluster larger 0 first) in
+    let e = c.unwrap_or.ensures ∙ ap₂ (λ (r : Option ℕ) (n : ℕ). unwrap_or r n) place behind ∙ insert-place-is 0 part (view_table t) in
+    (omega (arith, e, all, insert-place-low part (view_table t)), e)

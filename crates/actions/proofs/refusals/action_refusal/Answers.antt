@@ -6,7 +6,7 @@ use Rattle.base.proofs.Counted.{unmapped}
 use Rattle.base.proofs.RefusalNumbers.{numbers}
 use Rattle.clusters.specs.View.{view_cluster}
 use Rattle.clusters.proofs.Along.{table-length}
-use Rattle.actions.specs.Refusals.{action_refusals, action_refusal}
+use Rattle.actions.specs.Refusals.{action_refusals}
 use Rattle.actions.proofs.StagedLaws.{part_of, told-untouched}
 use Rattle.actions.proofs.refusals.action_refusal.Goals.{Start}
 use Rattle.actions.proofs.refusals.action_refusal.Goals as goal
@@ -15,7 +15,7 @@ long : (c : Start) → length c.args.t.clusters ≡ 64
 long c = search (rules, unmapped)
 
 pub returns-then-in_list : goal.returns-then-in_list
-unfolding action_refusal action_refusals
+unfolding action_refusals
 returns-then-in_list c listed e = search numbers
 
 pub returns : goal.returns

@@ -1,10 +1,11 @@
--- `areas::deletion::remaining` meets its contract. The loop's invariant: those of the first i packages that are kept stand at the
--- front, and every other place is as it was. The measure is what is left of the packages. Assumes nothing.
+-- `areas::deletion::remaining` meets its contract. The loop's invariant: those of the first packages that are kept stand at the front, and
+-- every other place is as it was. Assumes nothing.
 use borrow.Author.Rules.{rules}
 use native.Mathlib.Omega.{arith}
 use mathlib.Core.Path.{◌≡◌, sym, ◌∙◌}
 use Prim.Native.Nat.{◌<◌}
-use lib.ListN.{length}
+use lib.ListN.{length, length-take}
+use lib.Seq.{get_or-take}
 use Rattle.base.proofs.Counted.{unmapped}
 use Rattle.model.specs.Sound.{packages_most}
 use Rattle.state.specs.View.{cleared_package}
@@ -15,18 +16,21 @@ use Rattle.areas.proofs.deletion.remaining.Goals as goal
 long : (c : Start) → length c.args.t.packages ≡ packages_most
 long c = search (rules, unmapped)
 
-pub loop-i-init : goal.loop-i-init
-loop-i-init c = search (rules, keeping-begins)
+pub loop-p-init : goal.loop-p-init
+loop-p-init c = search (rules, keeping-begins)
 
-pub loop-i-preserved : goal.loop-i-preserved
-loop-i-preserved c =
-    let below : c.loop-i.i < length c.args.t.packages = omega (arith, long (goal.at.loop-i-preserved c).Start) in (
-      omega arith,
-      elim c.if-keeps.branch [
-        | then-keeps w ↦ rw (w.packages-is, w.kept-is) (keeping-moves c.loop-i.invariant.1 cleared_package below (sym c.keeps.ensures ∙ w.if-keeps.true))
-        | else-keeps w ↦ rw (w.packages-is, w.kept-is) (keeping-passes c.loop-i.invariant.1 cleared_package below (sym c.keeps.ensures ∙ w.if-keeps.false))
-      ],
-    )
+pub loop-p-preserved : goal.loop-p-preserved
+loop-p-preserved c =
+    let t = c.args.t in
+    let i = c.loop-p.p-index in
+    let counts : i < t.count = omega (arith, c.loop-p-test.true, length-take t.count t.packages) in
+    let below : i < length t.packages = omega (arith, c.loop-p-test.true, length-take t.count t.packages) in
+    let same = get_or-take t.count t.packages i cleared_package counts in
+    elim c.if-keeps.branch [
+      | then-keeps w ↦ rw (w.packages-is, w.kept-is, same) (keeping-moves c.loop-p.invariant cleared_package below (rw same at (sym c.keeps.ensures ∙ w.if-keeps.true)))
+      | else-keeps w ↦ rw (w.packages-is, w.kept-is) (keeping-passes c.loop-p.invariant cleared_package below (rw same at (sym c.keeps.ensures ∙ w.if-keeps.false)))
+    ]
 
 pub returns : goal.returns
-returns c = keeping-ends c.loop-i.invariant.1 (omega arith)
+returns c =
+    keeping-ends c.loop-p.invariant (omega (arith, long (goal.at.returns c).Start, c.loop-p-test.false, length-take c.args.t.count c.args.t.packages))

@@ -1,14 +1,10 @@
 -- `areas::lookup::named_package` meets its contract: the same two tests in the same order. Assumes nothing.
-use native.Mathlib.Omega.{arith}
 use Rattle.base.proofs.RefusalNumbers.{numbers}
-use Rattle.areas.proofs.FoundPackage.{nothing-unknown, place-known, place-of-found}
+use Rattle.areas.proofs.FoundPackage.{named-refused, named-placed}
 use Rattle.areas.proofs.lookup.named_package.Goals as goal
 
-pub returns-then-not-allowed : goal.returns-then-not-allowed
-returns-then-not-allowed c = record { number = search numbers; place = λ z. absurd (omega (arith, z)) }
-
-pub returns-in_default : goal.returns-in_default
-returns-in_default c = record { number = search (numbers, nothing-unknown); place = λ z. absurd (omega (arith, z)) }
+pub returns-then-not-allowed-clause-refused : goal.returns-then-not-allowed-clause-refused
+returns-then-not-allowed-clause-refused c = search numbers
 
 pub returns : goal.returns
-returns c = record { number = search (numbers, place-known); place = λ z. search place-of-found }
+returns c = record { refused = search (named-refused, numbers); place = named-placed c.find.result _ _ _ c.find.ensures.place c.ok_or.ensures.value }

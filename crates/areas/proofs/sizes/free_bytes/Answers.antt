@@ -12,10 +12,6 @@ use Rattle.areas.proofs.sizes.free_bytes.Goals as goal
 long : (c : Start) → length c.args.t.packages ≡ packages_most
 long c = search (rules, unmapped)
 
-pub returns-then-declared-store_length : goal.returns-then-declared-store_length
-returns-then-declared-store_length c =
-    omega (arith, c.area_start-declared.ensures, start-last c.args.t c.requires (long (goal.at.returns-then-declared-store_length c).Start))
-
 pub returns : goal.returns
 returns c =
-    omega (arith, c.area_start-declared.ensures, start-last c.args.t c.requires (long (goal.at.returns c).Start))
+    omega (arith, c.saturating_sub.ensures, c.area_start.ensures, start-last c.args.t c.requires (long (goal.at.returns c).Start))

@@ -1,14 +1,10 @@
 -- `change_info::length::changes_length` meets its contract. The loop's invariant: the total and the length of the lines of the entries
--- from i on make the length of the text. The measure is what is left of the entries. Assumes nothing.
-use Prim.Native.Nat.{◌+◌, ◌-◌}
+-- left make the length of the text. Assumes nothing.
+use Prim.Native.Nat.{◌+◌}
 use mathlib.Core.Path.{◌≡◌}
 use lib.ListN.{length, drop}
-use Rattle.model.specs.Reading.{change_lines}
-use Rattle.change_info.specs.Changes.{listed_actions, changes_text}
+use Rattle.change_info.proofs.ListedLines.{lines_of}
 use Rattle.change_info.proofs.length.changes_length.Given as goal
 
-abbrev pub invariant-loop-i : goal.invariant-loop-i
-invariant-loop-i l = l.total + length (change_lines (drop l.i (listed_actions l.session))) ≡ length (changes_text l.session)
-
-abbrev pub decreases-loop-i : goal.decreases-loop-i
-decreases-loop-i l = l.count - l.i
+abbrev pub invariant-loop-entry : goal.invariant-loop-entry
+invariant-loop-entry l = l.total + length (lines_of (drop l.entry-index l.entry-items)) ≡ 15 + length (lines_of l.entry-items)

@@ -13,16 +13,20 @@ bounds-buffer-behind_part c = search (room-between (line-pair c.args.a))
 pub overflow_add-behind_part : goal.overflow_add-behind_part
 overflow_add-behind_part c = omega (arith, room-between (line-pair c.args.a) _ _ c.requires _ _ c.put_number-behind_part.ensures)
 
-pub put_word-behind_word-requires : goal.put_word-behind_word-requires
-put_word-behind_word-requires c = search (room-second-part (line-pair c.args.a))
+pub put_bytes-behind_word-requires : goal.put_bytes-behind_word-requires
+put_bytes-behind_word-requires c = rw c.word.ensures.meaning (search (room-second-part (line-pair c.args.a)))
 
 pub bounds-buffer-behind_word : goal.bounds-buffer-behind_word
-bounds-buffer-behind_word c = search (room-behind (line-pair c.args.a))
+bounds-buffer-behind_word c =
+    let put = rw c.word.ensures.meaning at c.put_bytes-behind_word.ensures in
+    search (room-behind (line-pair c.args.a))
 
 pub returns : goal.returns
-returns c = search (pair_put (line-pair c.args.a))
+returns c =
+    let put = rw c.word.ensures.meaning at c.put_bytes-behind_word.ensures in
+    search (pair_put (line-pair c.args.a))
 
 pub overflow_add-result : goal.overflow_add-result
 overflow_add-result c =
-    let put = pair_put (line-pair c.args.a) _ _ c.requires _ _ c.put_number-behind_part.ensures _ _ c.put_word-behind_word.ensures in
+    let put = pair_put (line-pair c.args.a) _ _ c.requires _ _ c.put_number-behind_part.ensures _ _ (rw c.word.ensures.meaning at c.put_bytes-behind_word.ensures) in
     omega (arith, put.behind)

@@ -7,6 +7,3 @@ returns-in-Begins c = λ t e. search (said-so, c.add_cluster.ensures t e)
 
 pub returns-in-Adds : goal.returns-in-Adds
 returns-in-Adds c = λ t e. search (said-so, c.add_need.ensures t e)
-
-pub returns-in-IllFormed : goal.returns-in-IllFormed
-returns-in-IllFormed c = λ t e. search said-so

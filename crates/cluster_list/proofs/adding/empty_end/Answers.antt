@@ -6,4 +6,4 @@ use Rattle.cluster_list.proofs.adding.empty_end.Goals as goal
 
 pub returns : goal.returns
 unfolding end_of
-returns c = rw (c.new_cluster-cleared.ensures, struct-new-cluster 0 no_version)
+returns c = rw (c.new_cluster.ensures, struct-new-cluster 0 no_version)

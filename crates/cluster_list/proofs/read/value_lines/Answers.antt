@@ -3,34 +3,43 @@
 -- Assumes nothing.
 use Prim.Native.Nat.{◌≤◌}
 use native.Mathlib.Omega.{arith}
-use Rattle.cluster_list.proofs.ReadLaws.{reading_begins, reading-over, reading-no-line, reading-less, reading-no-value, reading-place, reading-on}
-use Rattle.cluster_list.proofs.read.value_lines.Goals.{Else-count-lt1}
+use Rattle.cluster_list.proofs.ReadLaws.{reading_begins, reading-over, reading-no-line, reading-less, reading-says-nothing, reading-no-value, reading-some, reading-place, reading-on}
+use Rattle.cluster_list.proofs.read.value_lines.Goals.{In_ok-end}
 use Rattle.cluster_list.proofs.read.value_lines.Goals as goal
 
--- a line that can be added leaves at most 64 clusters
-place : (c : Else-count-lt1) → c.add_line-end.result.count ≤ 64
-place c = search reading-place
+-- a line that was added leaves at least one cluster and at most 64
+some-there : (c : In_ok-end) → 1 ≤ c.in_ok-end.end.count
+some-there c = search (reading-some, c.in_ok-next.was, c.in_ok-says.was, c.in_ok-end.was)
+
+place : (c : In_ok-end) → c.in_ok-end.end.count ≤ 64
+place c = search (reading-place, c.in_ok-next.was, c.in_ok-says.was, c.in_ok-end.was)
 
 pub loop-at-init : goal.loop-at-init
 loop-at-init c = search reading_begins
 
-pub returns-in_default : goal.returns-in_default
-returns-in_default c = search reading-no-line
+pub returns-in_err-next : goal.returns-in_err-next
+returns-in_err-next c = search (reading-no-line, c.in_err-next.was)
 
-pub returns-then-count-lt1 : goal.returns-then-count-lt1
-returns-then-count-lt1 c = search reading-no-value
+pub returns-in_err-says : goal.returns-in_err-says
+returns-in_err-says c = search (reading-says-nothing, c.in_ok-next.was, c.in_err-says.was)
 
-pub offset_bounds-clusters-count : goal.offset_bounds-clusters-count
-offset_bounds-clusters-count c = omega (arith, place (goal.at.offset_bounds-clusters-count c).Else-count-lt1)
+pub returns-in_err-end : goal.returns-in_err-end
+returns-in_err-end c = search (reading-no-value, c.in_ok-next.was, c.in_ok-says.was, c.in_err-end.was)
 
-pub bounds-clusters-count : goal.bounds-clusters-count
-bounds-clusters-count c = omega (arith, place (goal.at.bounds-clusters-count c).Else-count-lt1)
+pub overflow_sub-clusters : goal.overflow_sub-clusters
+overflow_sub-clusters c = some-there (goal.at.overflow_sub-clusters c).In_ok-end
+
+pub offset_bounds-clusters-end : goal.offset_bounds-clusters-end
+offset_bounds-clusters-end c = omega (arith, place (goal.at.offset_bounds-clusters-end c).In_ok-end)
+
+pub bounds-clusters-end : goal.bounds-clusters-end
+bounds-clusters-end c = omega (arith, place (goal.at.bounds-clusters-end c).In_ok-end, some-there (goal.at.bounds-clusters-end c).In_ok-end)
 
 pub loop-at-smaller : goal.loop-at-smaller
-loop-at-smaller c = search reading-less
+loop-at-smaller c = search (reading-less, c.in_ok-next.was)
 
 pub loop-at-preserved : goal.loop-at-preserved
-loop-at-preserved c = search reading-on
+loop-at-preserved c = search (reading-on, c.in_ok-next.was, c.in_ok-says.was, c.in_ok-end.was)
 
 pub returns : goal.returns
 returns c = search reading-over

@@ -1,5 +1,5 @@
 -- `cluster_list_writer::length::need_lines_length` meets its contract. The loop's invariant: the total and the length of the lines
--- from i on make the length of all. The measure is what is left of the needs. Assumes nothing.
+-- from i on make the length of all. Assumes nothing.
 use Prim.Native.Nat.{◌+◌, ◌≤◌}
 use native.Mathlib.Omega.{arith}
 use mathlib.Core.Path.{◌≡◌, ap}
@@ -37,9 +37,6 @@ overflow_add-total c = omega (arith, step (goal.at.overflow_add-total c).In-loop
 
 pub overflow_add-total-in-loop-i : goal.overflow_add-total-in-loop-i
 overflow_add-total-in-loop-i c = omega (arith, step (goal.at.overflow_add-total-in-loop-i c).In-loop-i, needs-length-most _ c.requires)
-
-pub overflow_add-i : goal.overflow_add-i
-overflow_add-i c = omega (arith, few (goal.at.overflow_add-i c).Start)
 
 pub loop-i-preserved : goal.loop-i-preserved
 loop-i-preserved c = omega (arith, step (goal.at.loop-i-preserved c).In-loop-i)

@@ -1,6 +1,6 @@
 -- `cluster_list_writer::length::need_lines_length` meets its contract. The loop's invariant: the total and the length of the lines
--- from i on make the length of all. The measure is what is left of the needs. Assumes nothing.
-use Prim.Native.Nat.{◌+◌, ◌-◌}
+-- from i on make the length of all. Assumes nothing.
+use Prim.Native.Nat.{◌+◌}
 use mathlib.Core.Path.{◌≡◌}
 use lib.ListN.{length}
 use Rattle.cluster_list_writer.proofs.Texts.{need_lines_from}
@@ -8,6 +8,3 @@ use Rattle.cluster_list_writer.proofs.length.need_lines_length.Given as goal
 
 abbrev pub invariant-loop-i : goal.invariant-loop-i
 invariant-loop-i l = l.total + length (need_lines_from l.c l.i) ≡ length (need_lines_from l.c 1)
-
-abbrev pub decreases-loop-i : goal.decreases-loop-i
-decreases-loop-i l = l.count - l.i

@@ -1,5 +1,5 @@
 -- `cluster_list_writer::put::put_need_lines` meets its contract. The loop's invariant: with the lines of the needs from i on put at
--- `at`, the whole text stands. The measure is what is left of the needs. Assumes nothing.
+-- `at`, the whole text stands. Assumes nothing.
 use Prim.Native.Nat.{◌+◌}
 use native.Mathlib.Omega.{arith}
 use mathlib.Core.Path.{◌≡◌}
@@ -34,9 +34,6 @@ pub put_need_line-at-requires : goal.put_need_line-at-requires
 put_need_line-at-requires c =
     let l = c.loop-i in
     putting-room _ _ _ l.buf l.at _ l.invariant (need_line_at c.args.c l.i) (need_lines_from c.args.c (l.i + 1)) (step (goal.at.put_need_line-at-requires c).In-loop-i) c.requires.1
-
-pub overflow_add-i : goal.overflow_add-i
-overflow_add-i c = omega (arith, c.requires.0)
 
 pub loop-i-preserved : goal.loop-i-preserved
 loop-i-preserved c =

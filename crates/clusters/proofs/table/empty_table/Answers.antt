@@ -4,4 +4,4 @@ use Rattle.clusters.proofs.table.empty_table.Goals as goal
 
 pub returns : goal.returns
 unfolding new_cluster empty_table
-returns c = rw c.new_cluster-cleared.ensures
+returns c = rw c.new_cluster.ensures

@@ -1,20 +1,7 @@
--- `clusters::version::above` meets its contract: a ladder of tests as in the definition. Assumes nothing.
-use Rattle.base.proofs.Ladder.{ladder}
-use Rattle.clusters.specs.Version.{above}
+-- `clusters::version::above` meets its contract: the derived order is that of the definition. Assumes nothing.
+use mathlib.Core.Path.{◌∙◌}
+use Rattle.clusters.proofs.Order.{above-is}
 use Rattle.clusters.proofs.version.above.Goals as goal
 
-pub returns-then-v-w : goal.returns-then-v-w
-unfolding above
-returns-then-v-w c = search ladder
-
-pub returns-then-v-w-2 : goal.returns-then-v-w-2
-unfolding above
-returns-then-v-w-2 c = search ladder
-
-pub returns-then-v-w-3 : goal.returns-then-v-w-3
-unfolding above
-returns-then-v-w-3 c = search ladder
-
 pub returns : goal.returns
-unfolding above
-returns c = search ladder
+returns c = c.gt.ensures ∙ above-is c.args.v c.args.w

@@ -2,6 +2,7 @@
 use Prim.Native.Nat.{◌≤◌, ◌<◌}
 use mathlib.Core.Path.{◌≡◌, refl, ap₂, ◌∙◌}
 use mathlib.Core.Bool.{Bool, true, false, ◌&&◌}
+use borrow.Author.Tests.{lt-leb}
 use Rattle.text.specs.Version.{version_within}
 use Rattle.clusters.specs.declared.cluster.Cluster.{Cluster}
 use Rattle.clusters.specs.Cluster.{part_within, needs_within, needs_most, cluster_within}
@@ -22,10 +23,12 @@ few-enough : (c : Cluster) → c.need_count ≤ needs_most → part_within c.par
 unfolding cluster_within
 few-enough c h = rw (needs-fit c h)
 
-pub returns-then-c-gt-NEEDS_MOST : goal.returns-then-c-gt-NEEDS_MOST
-returns-then-c-gt-NEEDS_MOST c = too_many _ c.if-c-gt-NEEDS_MOST.true
+pub returns-else-c-le-NEEDS_MOST : goal.returns-else-c-le-NEEDS_MOST
+returns-else-c-le-NEEDS_MOST c =
+    let h = c.if-c-le-NEEDS_MOST.false in
+    lt-leb c.args.c.need_count needs_most h ∙ too_many c.args.c h
 
-pub returns : goal.returns
-returns c =
+pub returns-then-c-le-NEEDS_MOST : goal.returns-then-c-le-NEEDS_MOST
+returns-then-c-le-NEEDS_MOST c =
     ap₂ ◌&&◌ c.part_within.ensures (ap₂ ◌&&◌ c.version_within.ensures c.needs_within.ensures)
-    ∙ few-enough c.args.c c.if-c-gt-NEEDS_MOST.false
+    ∙ few-enough c.args.c c.if-c-le-NEEDS_MOST.true

@@ -5,4 +5,4 @@ use Rattle.text.proofs.Meaning.{whole-version-limits}
 use Rattle.examples.proofs.versions.read.Goals as goal
 
 pub put_version-requires : goal.put_version-requires
-put_version-requires c = omega (arith, version-most c.in-Value.version (search whole-version-limits))
+put_version-requires c = omega (arith, version-most c.in-Some.version (search whole-version-limits))

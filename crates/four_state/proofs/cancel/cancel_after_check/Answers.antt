@@ -6,11 +6,11 @@ use Rattle.four_state.proofs.OldWays.{told-permitted, old-ways, as-ensured}
 use Rattle.four_state.proofs.cancel.cancel_after_check.Goals as goal
 
 pub returns-then-not-is_sound : goal.returns-then-not-is_sound
-returns-then-not-is_sound c = as-ensured _ _ _ _ c.old_answer.result (search old-ways)
+returns-then-not-is_sound c = as-ensured _ _ _ _ c.answer_with.result (search old-ways)
 
 pub returns-then-not-allowed : goal.returns-then-not-allowed
 unfolding further_answers
-returns-then-not-allowed c = as-ensured _ _ _ _ c.old_answer-then-not-allowed.result (search (old-ways, told-permitted))
+returns-then-not-allowed c = as-ensured _ _ _ _ c.answer_with-then-not-allowed.result (search (old-ways, told-permitted))
 
 pub cancel_on_sound-requires : goal.cancel_on_sound-requires
 cancel_on_sound-requires c = search told-yes

@@ -1,22 +1,29 @@
 -- `four_state::revert::revert_after_check` meets its contract: the ways out of an old call. Assumes nothing.
+use mathlib.Core.Path.{◌≡◌}
 use Rattle.base.proofs.Ladder.{told-yes}
+use Rattle.model.specs.State.{is_idle}
 use Rattle.model.specs.Step.{own_refusals}
-use Rattle.session_calls.proofs.MoveLaws.{told-equal, told-unequal}
+use Rattle.state.specs.View.{view_phase}
 use Rattle.manager.specs.Accepts.{accepts}
 use Rattle.four_state.specs.OldCalls.{further_answers}
-use Rattle.four_state.proofs.OldWays.{old-ways, as-ensured}
+use Rattle.four_state.proofs.OldWays.{told-idle, other-idle, old-ways, as-ensured}
+use Rattle.four_state.proofs.revert.revert_after_check.Goals.{Joined-matches, in-Idle, in_default}
 use Rattle.four_state.proofs.revert.revert_after_check.Goals as goal
 
-pub returns-then-not-is_sound : goal.returns-then-not-is_sound
-returns-then-not-is_sound c = as-ensured _ _ _ _ c.old_answer.result (search old-ways)
+idle : (c : Joined-matches) → is_idle (view_phase c.args.s.phase) ≡ c.match-matches.matches
+idle c = elim c.match-matches.branch [ in-Idle w ↦ search told-idle | in_default w ↦ search other-idle ]
 
-pub returns-then-phase_number-eq-IDLE : goal.returns-then-phase_number-eq-IDLE
+pub returns-then-not-is_sound : goal.returns-then-not-is_sound
+returns-then-not-is_sound c = as-ensured _ _ _ _ c.answer_with.result (search old-ways)
+
+pub returns-then-matches : goal.returns-then-matches
 unfolding further_answers
-returns-then-phase_number-eq-IDLE c = as-ensured _ _ _ _ c.old_answer-then-phase_number-eq-IDLE.result (search (old-ways, told-equal))
+returns-then-matches c =
+    as-ensured _ _ _ _ c.answer_with-then-matches.result (search (old-ways, idle (goal.at.returns-then-matches c).Joined-matches))
 
 pub revert_on_sound-requires : goal.revert_on_sound-requires
 revert_on_sound-requires c = search told-yes
 
 pub returns : goal.returns
 unfolding further_answers accepts own_refusals
-returns c = as-ensured _ _ _ _ c.answer_by.result (search (old-ways, told-yes, told-unequal))
+returns c = as-ensured _ _ _ _ c.answer_by.result (search (old-ways, told-yes, idle (goal.at.returns c).Joined-matches))

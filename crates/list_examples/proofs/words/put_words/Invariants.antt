@@ -1,12 +1,9 @@
--- `list_examples::words::put_words` keeps the length and answers at most it. The invariant: the count is at most the length, which stays; the
--- measure is what is left of the text. Assumes nothing.
-use Prim.Native.Nat.{◌-◌, ◌≤◌}
-use mathlib.Core.Path.{◌≡◌}
-use lib.ListN.{length}
+-- `list_examples::words::put_words` meets its contract. The invariant: no more words were put than the slice has room for. Assumes nothing.
+use Rattle.std.proofs.Common.{◌≤◌, length}
 use Rattle.list_examples.proofs.words.put_words.Given as goal
 
-abbrev pub invariant-loop-at : goal.invariant-loop-at
-invariant-loop-at l = (l.count ≤ length l.initial.words) × (length l.words ≡ length l.initial.words)
-
-abbrev pub decreases-loop-at : goal.decreases-loop-at
-decreases-loop-at l = length l.text - l.at
+abbrev pub invariant-loop-word : goal.invariant-loop-word
+invariant-loop-word l =
+    (goal.iterator-loop-word).can_next l.word-iterator
+    × (goal.iterator-loop-word).is_finite l.word-iterator
+    × (l.count ≤ length l.words)

@@ -1,5 +1,5 @@
 -- `listed_actions::columns::entry_columns` meets its contract. The loop's invariant: the first i places of each column are those of
--- the first i entries. The measure is what is left of the entries. Assumes nothing.
+-- the first i entries. Assumes nothing.
 use borrow.Author.Rules.{rules}
 use native.Mathlib.Omega.{arith}
 use mathlib.Core.Path.{◌≡◌, refl, ◌∙◌}
@@ -15,22 +15,21 @@ long : (c : Start) → length c.args.entries ≡ entries_most
 long c = search (rules, unmapped)
 
 pub loop-i-init : goal.loop-i-init
-loop-i-init c = (omega arith, refl, refl, refl, refl)
+loop-i-init c = (refl, refl, refl, refl)
 
 pub loop-i-preserved : goal.loop-i-preserved
 loop-i-preserved c =
     let v = c.loop-i.invariant in
     let i = c.loop-i.i in
     let entries = c.args.entries in (
-      omega arith,
-      length-set c.loop-i.ids i _ ∙ v.1,
-      length-set c.loop-i.parts i _ ∙ v.2,
-      fill_step entry_id entries c.loop-i.ids i _ (omega (arith, long (goal.at.loop-i-preserved c).Start)) (omega (arith, v.1)) v.3,
-      fill_step entry_part entries c.loop-i.parts i _ (omega (arith, long (goal.at.loop-i-preserved c).Start)) (omega (arith, v.2)) v.4,
+      length-set c.loop-i.ids i _ ∙ v.0,
+      length-set c.loop-i.parts i _ ∙ v.1,
+      fill_step entry_id entries c.loop-i.ids i _ (omega (arith, long (goal.at.loop-i-preserved c).Start)) (omega (arith, v.0)) v.2,
+      fill_step entry_part entries c.loop-i.parts i _ (omega (arith, long (goal.at.loop-i-preserved c).Start)) (omega (arith, v.1)) v.3,
     )
 
 pub returns : goal.returns
 returns c =
     let v = c.loop-i.invariant in
-    let q : c.loop-i.i ≡ c.args.count = omega (arith, v.0, c.loop-i-test.false) in
-    record { ids = rw q at v.3; parts = rw q at v.4 }
+    let q : c.loop-i.i ≡ c.args.count = omega (arith, c.loop-i-test.false) in
+    record { ids = rw q at v.2; parts = rw q at v.3 }

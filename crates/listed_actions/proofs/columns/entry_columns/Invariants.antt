@@ -1,8 +1,7 @@
 -- `listed_actions::columns::entry_columns` meets its contract. The loop's invariant: the first i places of each column are those of
--- the first i entries. The measure is what is left of the entries. Assumes nothing.
+-- the first i entries. Assumes nothing.
 use mathlib.Core.Path.{◌≡◌}
 use mathlib.Core.List.{map}
-use Prim.Native.Nat.{◌-◌, ◌≤◌}
 use lib.ListN.{length, take}
 use Rattle.state.specs.View.{entries_most}
 use Rattle.listed_actions.specs.Listed.{entry_id, entry_part}
@@ -10,11 +9,7 @@ use Rattle.listed_actions.proofs.columns.entry_columns.Given as goal
 
 abbrev pub invariant-loop-i : goal.invariant-loop-i
 invariant-loop-i l =
-    (l.i ≤ l.count)
-    × (length l.ids ≡ entries_most)
+    (length l.ids ≡ entries_most)
     × (length l.parts ≡ entries_most)
     × (take l.i l.ids ≡ map entry_id (take l.i l.entries))
     × (take l.i l.parts ≡ map entry_part (take l.i l.entries))
-
-abbrev pub decreases-loop-i : goal.decreases-loop-i
-decreases-loop-i l = l.count - l.i

@@ -1,10 +1,9 @@
 -- `listed_actions::in_turn::pass_in_turn` meets its contract. The loop's invariant: of each table that the columns are of, the list passes
--- in turn exactly where the rest from i on passes after the first i, with so many clusters staged. The measure is what is left of the
--- list. Assumes nothing.
+-- in turn exactly where the rest from i on passes after the first i, with so many clusters staged. Assumes nothing.
 use mathlib.Core.Path.{◌≡◌}
 use mathlib.Core.Bool.{true}
 use mathlib.Core.List.{[]}
-use Prim.Native.Nat.{◌+◌, ◌-◌, ◌≤◌}
+use Prim.Native.Nat.{◌+◌, ◌≤◌}
 use lib.ListN.{take, drop}
 use Rattle.clusters.specs.Table.{Table, table_within, clusters_most}
 use Rattle.clusters.specs.Columns.{ColumnsOf}
@@ -16,9 +15,6 @@ use Rattle.listed_actions.proofs.in_turn.pass_in_turn.Given as goal
 
 abbrev pub invariant-loop-i : goal.invariant-loop-i
 invariant-loop-i l =
-    (l.i ≤ l.count) × (l.staged ≤ clusters_most + l.i)
+    (l.staged ≤ clusters_most + l.i)
     × ((t : Table) → ColumnsOf l.columns t → table_within t ≡ true → actions_within (listed_actions l.entries l.count) ≡ true
     → pass_in_turn t [] (listed_actions l.entries l.count) ≡ pass_in_turn_on t l.staged (take l.i (listed_actions l.entries l.count)) (drop l.i (listed_actions l.entries l.count)))
-
-abbrev pub decreases-loop-i : goal.decreases-loop-i
-decreases-loop-i l = l.count - l.i

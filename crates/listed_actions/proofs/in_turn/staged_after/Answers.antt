@@ -1,7 +1,6 @@
 -- `listed_actions::in_turn::staged_after` meets its contract: a case for each change. Assumes nothing.
-use native.Mathlib.Omega.{arith}
-use mathlib.Core.Path.{◌≡◌, refl}
-use Prim.Native.Nat.{ℕ, ◌-◌}
+use mathlib.Core.Path.{refl}
+use Prim.Native.Nat.{ℕ}
 use Rattle.actions.specs.declared.action.Change.TheVariants.{Install, Update, Remove}
 use Rattle.actions.specs.Action.{Action}
 use Rattle.actions.proofs.StagedLaws.{by-change}
@@ -19,13 +18,6 @@ pub returns-in-Update : goal.returns-in-Update
 unfolding staged_after
 returns-in-Update c d = by-change (after c.args.staged) _ Update d _ c.in-Update.is refl
 
-pub returns-then-staged-lt1 : goal.returns-then-staged-lt1
+pub returns-in-Remove : goal.returns-in-Remove
 unfolding staged_after
-returns-then-staged-lt1 c d =
-    let n = c.args.staged in
-    let e : 0 ≡ n - 1 = omega arith in
-    by-change (after n) _ Remove d _ c.in-Remove.is e
-
-pub returns-else-staged-lt1 : goal.returns-else-staged-lt1
-unfolding staged_after
-returns-else-staged-lt1 c d = by-change (after c.args.staged) _ Remove d _ c.in-Remove.is refl
+returns-in-Remove c d = by-change (after c.args.staged) _ Remove d _ c.in-Remove.is c.saturating_sub.ensures

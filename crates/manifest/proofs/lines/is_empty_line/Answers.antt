@@ -2,8 +2,8 @@
 use Rattle.manifest.proofs.EmptyLine.{not-one-field, one-empty-field}
 use Rattle.manifest.proofs.lines.is_empty_line.Goals as goal
 
-pub returns-in_default : goal.returns-in_default
-returns-in_default c = search not-one-field
+pub returns-then-is_some : goal.returns-then-is_some
+returns-then-is_some c = search one-empty-field
 
-pub returns : goal.returns
-returns c = search one-empty-field
+pub returns-else-is_some : goal.returns-else-is_some
+returns-else-is_some c = search not-one-field

@@ -5,5 +5,5 @@ use Rattle.manifest.proofs.package.package_with.Goals as goal
 pub returns-then-s-start : goal.returns-then-s-start
 returns-then-s-start c = λ plain e. let a = c.action_of.ensures plain e in search payload-fits
 
-pub returns : goal.returns
-returns c = λ plain e. search payload-differs
+pub returns-else-s-start : goal.returns-else-s-start
+returns-else-s-start c = λ plain e. search payload-differs

@@ -4,14 +4,14 @@ use Rattle.call_rows.proofs.RowLaws.{block_within}
 use Rattle.measured.proofs.TwelveRow.{no_call, no-twelve, twelve-call}
 use Rattle.measured.proofs.calls.make_row.Goals as goal
 
-pub returns-in_default : goal.returns-in_default
-returns-in_default c = search no_call
-
-pub returns-in_default-request : goal.returns-in_default-request
-returns-in_default-request c = search no-twelve
-
 pub row_block-requires : goal.row_block-requires
 row_block-requires c = search block_within
 
-pub returns : goal.returns
-returns c = search twelve-call
+pub returns-in-Some-Twelve : goal.returns-in-Some-Twelve
+returns-in-Some-Twelve c = search twelve-call
+
+pub returns-in-Some-Old : goal.returns-in-Some-Old
+returns-in-Some-Old c = search no-twelve
+
+pub returns-in-None : goal.returns-in-None
+returns-in-None c = search no_call

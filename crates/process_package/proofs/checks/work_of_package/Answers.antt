@@ -2,4 +2,4 @@
 use Rattle.process_package.proofs.checks.work_of_package.Goals as goal
 
 pub returns : goal.returns
-returns c = rw c.start-sums.ensures
+returns c = rw c.start.ensures

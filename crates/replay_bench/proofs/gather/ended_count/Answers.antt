@@ -6,8 +6,8 @@ use Rattle.replay_bench.proofs.gather.ended_count.Goals as goal
 pub returns-then-gathered : goal.returns-then-gathered
 returns-then-gathered c = (search rules, search count-too-long)
 
-pub returns-then-line-count : goal.returns-then-line-count
-returns-then-line-count c = (search rules, search count_past)
+pub returns-then-line-gathered : goal.returns-then-line-gathered
+returns-then-line-gathered c = (search rules, search count_past)
 
-pub returns : goal.returns
-returns c = (search rules, search count-whole)
+pub returns-else-line-gathered : goal.returns-else-line-gathered
+returns-else-line-gathered c = (search rules, search count-whole)

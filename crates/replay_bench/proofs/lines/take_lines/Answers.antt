@@ -35,7 +35,7 @@ loop-at-smaller c = omega (arith, c.gather_part-part.ensures.0, c.gather_part-pa
 
 pub loop-at-preserved : goal.loop-at-preserved
 loop-at-preserved c =
-    (omega (arith, c.play-played.auto.bytes, c.loop-at.invariant.0), omega (arith, c.gather_part-part.auto.line, c.loop-at.invariant.1), omega (arith, c.play-played.auto.buffer, c.show_line_answer-is_written.auto.buffer, c.loop-at.invariant.2), line_taken _ _ _ _ _ _ _ _ _ _ c.loop-at.invariant.1 c.loop-at-test.true c.loop-at.invariant.3 c.gather_part-part.ensures.2 _ _ _ _ _ c.if-not-part.false c.ended_line-ended.ensures.2 c.play-played.ensures c.new_line-gathering.ensures)
+    (omega (arith, c.play-played.auto.bytes, c.loop-at.invariant.0), omega (arith, c.gather_part-part.auto.line, c.loop-at.invariant.1), omega (arith, c.play-played.auto.buffer, c.show_line_answer-shown.auto.buffer, c.loop-at.invariant.2), line_taken _ _ _ _ _ _ _ _ _ _ c.loop-at.invariant.1 c.loop-at-test.true c.loop-at.invariant.3 c.gather_part-part.ensures.2 _ _ _ _ _ c.if-not-part.false c.ended_line-ended.ensures.2 c.play-played.ensures c.new_line-gathering.ensures)
 
 pub returns : goal.returns
 returns c = search all-taken

@@ -38,11 +38,10 @@ pub returns-clause-answer : goal.returns-clause-answer
 returns-clause-answer c =
     let e = c.packages-answer.ensures in
     let given = lent-given c.args.s c.cleared_list-list.result c.room_within-count.result (within (goal.at.returns-clause-answer c).After-room_within-count) c.args.store.now c.packages-answer.result c.packages-answer.new.list e.meaning e.exact in
-    ap reply_of c.with_list.ensures.0 ∙ given.0 ∙ ap (packages_reply (view_state c.args.s) c.args.store.now) c.room_within-count.ensures
+    given.0 ∙ ap (packages_reply (view_state c.args.s) c.args.store.now) c.room_within-count.ensures
 
 pub returns-clause-list : goal.returns-clause-list
 returns-clause-list c =
     let e = c.packages-answer.ensures in
     let given = lent-given c.args.s c.cleared_list-list.result c.room_within-count.result (within (goal.at.returns-clause-list c).After-room_within-count) c.args.store.now c.packages-answer.result c.packages-answer.new.list e.meaning e.exact in
-    c.with_list.ensures.1 ∙ given.1 ∙ ap (λ (l : List Record). report_buffer (reply_of c.packages-answer.result) (listed c.args.s) l) c.cleared_list-list.ensures
-    ∙ ap (λ (r : Reply). report_buffer (reply_of r) (listed c.args.s) (replicate records_most cleared_record)) (sym c.with_list.ensures.0)
+    given.1 ∙ ap (λ (l : List Record). report_buffer (reply_of c.packages-answer.result) (listed c.args.s) l) c.cleared_list-list.ensures

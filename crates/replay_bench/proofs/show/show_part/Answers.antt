@@ -8,5 +8,5 @@ put_bytes_digits-end-requires c = search digits-fit
 pub slice_bounds-digits-end : goal.slice_bounds-digits-end
 slice_bounds-digits-end c = search digits-inside
 
-pub slice_bounds-show_text-end : goal.slice_bounds-show_text-end
-slice_bounds-show_text-end c = search digits_long
+pub slice_bounds-write_all-end : goal.slice_bounds-write_all-end
+slice_bounds-write_all-end c = search digits_long

@@ -5,5 +5,5 @@ use Rattle.rows.proofs.field.behind_field.Goals as goal
 pub returns-then-end-s : goal.returns-then-end-s
 returns-then-end-s c = search behind-on
 
-pub returns : goal.returns
-returns c = search behind-end
+pub returns-else-end-s : goal.returns-else-end-s
+returns-else-end-s c = search behind-end

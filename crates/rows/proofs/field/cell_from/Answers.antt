@@ -5,7 +5,7 @@ use Rattle.rows.proofs.field.cell_from.Goals as goal
 
 pub slice_bounds-result-end : goal.slice_bounds-result-end
 slice_bounds-result-end c =
-    let w = field-within _ _ _ c.field_end-to.ensures c.cell_start-from.ensures.0 in
+    let w = field-within _ _ _ c.field_end.ensures c.cell_start-from.ensures.0 in
     omega arith
 
 pub returns : goal.returns

@@ -1,16 +1,9 @@
--- `rows::field::field_end` meets its contract. Invariant: the field from `from` on ends where the field from `i` on ends.
--- Measure: the bytes left. Assumes nothing.
-use Rattle.rows.proofs.FieldLaws.{field_end, field-comma, field-LF, field-on}
+-- `rows::field::field_end` meets its contract: the field ends at the first byte that ends one, or with the text. Assumes nothing.
+use Rattle.rows.proofs.FieldLaws.{field-found, field-not-found}
 use Rattle.rows.proofs.field.field_end.Goals as goal
 
-pub returns-then-b-eq44 : goal.returns-then-b-eq44
-returns-then-b-eq44 c = search field-comma
+pub returns-in-Some : goal.returns-in-Some
+returns-in-Some c = search field-found
 
-pub returns-then-b-eq10 : goal.returns-then-b-eq10
-returns-then-b-eq10 c = search field-LF
-
-pub loop-i-preserved : goal.loop-i-preserved
-loop-i-preserved c = search field-on
-
-pub returns : goal.returns
-returns c = search field_end
+pub returns-in-None : goal.returns-in-None
+returns-in-None c = search field-not-found

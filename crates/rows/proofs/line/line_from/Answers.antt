@@ -1,20 +1,20 @@
--- `rows::line::line_from` meets its contract. Invariant: the line is what goes on at `i` with `left` commas to come.
--- Measure: the bytes left. Assumes nothing.
-use Rattle.rows.proofs.LineLaws.{line-over, line-ends, line-short, line-long, line-comma, line-byte}
-use Rattle.rows.proofs.line.line_from.Goals.{else-b-eq44, then-b-eq44+else-left-eq0-2}
+-- `rows::line::line_from` meets its contract, by the first LF and the commas before it. Assumes nothing.
+use Prim.Native.Nat.{◌<◌}
+use native.Mathlib.Omega.{arith}
+use lib.ListN.{length}
+use Rattle.rows.proofs.LineLaws.{line-past-end, line-without-LF, line-with-commas, line-other}
 use Rattle.rows.proofs.line.line_from.Goals as goal
 
-pub returns-then-left-eq0 : goal.returns-then-left-eq0
-returns-then-left-eq0 c = search line-ends
+pub returns-in_err-rest : goal.returns-in_err-rest
+returns-in_err-rest c =
+    let past : length c.args.s.now < c.args.at = omega (arith, c.in_err-rest.ensures.lookup.0) in
+    search line-past-end
 
-pub returns-then-b-eq10 : goal.returns-then-b-eq10
-returns-then-b-eq10 c = search line-short
+pub returns-in_err-end : goal.returns-in_err-end
+returns-in_err-end c = search (line-without-LF, c.in_ok-rest.ensures.lookup, c.in_err-end.was)
 
-pub returns-then-left-eq0-2 : goal.returns-then-left-eq0-2
-returns-then-left-eq0-2 c = search line-long
+pub returns-then-commas_in-commas : goal.returns-then-commas_in-commas
+returns-then-commas_in-commas c = search (line-with-commas, c.in_ok-rest.ensures.lookup, c.in_ok-end.was)
 
-pub loop-i-preserved : goal.loop-i-preserved
-loop-i-preserved c = elim c.if-b-eq44.branch [ then-b-eq44+else-left-eq0-2 w ↦ search line-comma | else-b-eq44 w ↦ search line-byte ]
-
-pub returns : goal.returns
-returns c = search line-over
+pub returns-else-commas_in-commas : goal.returns-else-commas_in-commas
+returns-else-commas_in-commas c = search (line-other, c.in_ok-rest.ensures.lookup, c.in_ok-end.was)

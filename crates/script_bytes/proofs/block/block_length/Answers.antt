@@ -6,14 +6,14 @@ use Rattle.script_bytes.proofs.block.block_length.Goals as goal
 pub overflow_sub-result : goal.overflow_sub-result
 overflow_sub-result c = search (form-typed, rules)
 
-pub returns-in-Digits : goal.returns-in-Digits
-returns-in-Digits c = search counts
+pub returns-in-Some-Digits : goal.returns-in-Some-Digits
+returns-in-Some-Digits c = search counts
 
-pub returns-in-Nothing : goal.returns-in-Nothing
-returns-in-Nothing c = search counts
+pub returns-in-Some-Typed : goal.returns-in-Some-Typed
+returns-in-Some-Typed c = search counts
 
-pub returns-in-Typed : goal.returns-in-Typed
-returns-in-Typed c = search counts
+pub returns-in-Some-Nothing : goal.returns-in-Some-Nothing
+returns-in-Some-Nothing c = search counts
 
-pub returns-in-IllFormed : goal.returns-in-IllFormed
-returns-in-IllFormed c = search counts
+pub returns-in-None : goal.returns-in-None
+returns-in-None c = search counts

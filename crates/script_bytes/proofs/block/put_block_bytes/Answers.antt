@@ -15,14 +15,14 @@ slice_bounds-put_typed-start c = search (form-typed, rules)
 pub put_typed-requires : goal.put_typed-requires
 put_typed-requires c = search typed-fit
 
-pub returns-in-Digits : goal.returns-in-Digits
-returns-in-Digits c = search blocks
+pub returns-in-Some-Digits : goal.returns-in-Some-Digits
+returns-in-Some-Digits c = search blocks
 
-pub returns-in-Nothing : goal.returns-in-Nothing
-returns-in-Nothing c = search blocks
+pub returns-in-Some-Nothing : goal.returns-in-Some-Nothing
+returns-in-Some-Nothing c = search blocks
 
-pub returns-in-Typed : goal.returns-in-Typed
-returns-in-Typed c = search blocks
+pub returns-in-Some-Typed : goal.returns-in-Some-Typed
+returns-in-Some-Typed c = search blocks
 
-pub returns-in-IllFormed : goal.returns-in-IllFormed
-returns-in-IllFormed c = search blocks
+pub returns-in-None : goal.returns-in-None
+returns-in-None c = search blocks

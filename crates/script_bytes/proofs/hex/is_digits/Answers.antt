@@ -1,19 +1,15 @@
--- `script_bytes::hex::is_digits` meets its contract. Invariant: the word is digits exactly when its bytes from `i` on are. Measure: the bytes
--- left. Assumes nothing.
-use Rattle.script_bytes.proofs.HexLaws.{digits-odd, digits-begin, digits-over, digits-other, digits-on}
+-- `script_bytes::hex::is_digits` meets its contract: the chain's result, and the laws of HexLaws. Assumes nothing.
+use Rattle.std.proofs.Common.{rules, arith}
+use Rattle.std.proofs.lemmas.Iterator.{YieldsList-from_slice}
+use Rattle.std.proofs.lemmas.Iterator.Search.{all_from_yields_List}
+use Rattle.script_bytes.specs.Hex.{is_digit}
+use Rattle.script_bytes.proofs.HexLaws.{digits-odd, digits-even, told-digit}
 use Rattle.script_bytes.proofs.hex.is_digits.Goals as goal
 
-pub returns-then-word-eq1 : goal.returns-then-word-eq1
-returns-then-word-eq1 c = search digits-odd
+pub returns-then-word-eq0 : goal.returns-then-word-eq0
+returns-then-word-eq0 c =
+    digits-even c.args.word.now c.all.result (omega arith)
+    (all_from_yields_List is_digit _ _ c.all.result c.all.ensures.ran (YieldsList-from_slice c.args.word.now cc) (λ x b q k. search (rules, told-digit)))
 
-pub loop-i-init : goal.loop-i-init
-loop-i-init c = search digits-begin
-
-pub returns-then-digit_value-ge16 : goal.returns-then-digit_value-ge16
-returns-then-digit_value-ge16 c = search digits-other
-
-pub loop-i-preserved : goal.loop-i-preserved
-loop-i-preserved c = search digits-on
-
-pub returns : goal.returns
-returns c = search digits-over
+pub returns-else-word-eq0 : goal.returns-else-word-eq0
+returns-else-word-eq0 c = digits-odd c.args.word.now c.if-word-eq0.false

@@ -4,4 +4,4 @@ use Rattle.script_calls.proofs.NothingLoaded.{first-unsound}
 use Rattle.script_calls.proofs.kept.nothing_loaded.Goals as goal
 
 pub returns : goal.returns
-returns c = record { unsound = first-unsound _ _ c.loaded_state-state.ensures; no_bytes = search rules }
+returns c = record { unsound = first-unsound _ _ c.loaded_state.ensures; no_bytes = search rules }

@@ -19,7 +19,7 @@ three c given exact = clauses _ _ _ _ _ exact λ h. search view-reverting
 
 pub returns-then-not-sound : goal.returns-then-not-sound
 returns-then-not-sound c =
-    let told = three (goal.at.returns-then-not-sound c).Start (outcome c.refused.result c.args.store.now) (search ways) in
+    let told = three (goal.at.returns-then-not-sound c).Start (outcome c.refuse.result c.args.store.now) (search ways) in
     record { meaning = told.0; exact = told.1.0; sound = told.1.1 }
 
 pub revert_on_sound-requires : goal.revert_on_sound-requires

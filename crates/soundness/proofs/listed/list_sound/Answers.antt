@@ -58,8 +58,8 @@ returns-then-count-lt1 c =
     none-listed c.args.entries c.args.count (long (goal.at.returns-then-count-lt1 c).Start) (view_phase c.args.phase) (view_packages c.args.t)
     c.if-count-lt1.true (many (goal.at.returns-then-count-lt1 c).Else-count-counts) (phase-right (goal.at.returns-then-count-lt1 c).Else-not-phase_fits)
 
-pub entry_columns-columns-requires : goal.entry_columns-columns-requires
-entry_columns-columns-requires c = few (goal.at.entry_columns-columns-requires c).Else-not-phase_fits
+pub entry_columns-requires : goal.entry_columns-requires
+entry_columns-requires c = few (goal.at.entry_columns-requires c).Else-not-phase_fits
 
 pub processed_as_listed-requires : goal.processed_as_listed-requires
 processed_as_listed-requires c =
@@ -69,4 +69,4 @@ pub returns : goal.returns
 returns c =
     phase-fit c.args.entries c.args.count (long (goal.at.returns c).Start) (view_phase c.args.phase) (view_packages c.args.t)
     (many (goal.at.returns c).Else-count-counts) (phase-right (goal.at.returns c).Else-not-phase_fits) _
-    (c.processed_as_listed.ensures (counted_entries c.args.entries c.args.count) (c.entry_columns-columns.ensures.ids ∙ counted-ids c.args.entries c.args.count (few (goal.at.returns c).Else-not-phase_fits)))
+    (c.processed_as_listed.ensures (counted_entries c.args.entries c.args.count) (c.entry_columns.ensures.ids ∙ counted-ids c.args.entries c.args.count (few (goal.at.returns c).Else-not-phase_fits)))

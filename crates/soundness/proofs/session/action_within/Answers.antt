@@ -1,4 +1,5 @@
--- `soundness::session::action_within` meets its contract: a case for each change. Assumes nothing.
+-- `soundness::session::action_within` meets its contract: a case for each arm. Assumes nothing.
+use mathlib.Core.Logic.{inl, inr}
 use mathlib.Core.Path.{◌≡◌, sym, ap, ◌∙◌}
 use Rattle.clusters.specs.View.{view_cluster}
 use Rattle.actions.specs.declared.action.Change.{Change}
@@ -13,11 +14,8 @@ by-change a change e = ap (λ (k : Change). action_within (action_of k (view_clu
 
 pub returns-in-Install : goal.returns-in-Install
 unfolding action_within
-returns-in-Install c = c.cluster_within.ensures ∙ by-change c.args.action _ c.in-Install.is
-
-pub returns-in-Update : goal.returns-in-Update
-unfolding action_within
-returns-in-Update c = c.cluster_within-in-Update.ensures ∙ by-change c.args.action _ c.in-Update.is
+returns-in-Install c =
+    elim c.in-Install.is [ inl e ↦ c.cluster_within.ensures ∙ by-change c.args.action _ e | inr e ↦ c.cluster_within.ensures ∙ by-change c.args.action _ e ]
 
 pub returns-in-Remove : goal.returns-in-Remove
 unfolding action_within

@@ -28,10 +28,10 @@ pub returns-then-not-actions_within : goal.returns-then-not-actions_within
 returns-then-not-actions_within c =
     and-stop (actions_within (listed_actions c.args.entries c.args.count)) _ (told-no _ _ c.actions_within.ensures c.if-not-actions_within.true-raw)
 
-pub columns_of-columns-requires : goal.columns_of-columns-requires
-columns_of-columns-requires c = few c.args.beginning c.requires.0
+pub of-columns-requires : goal.of-columns-requires
+of-columns-requires c = few c.args.beginning c.requires.0
 
 pub returns : goal.returns
 returns c =
     and-on (actions_within (listed_actions c.args.entries c.args.count)) _ _ (actions-told (goal.at.returns c).Else-not-actions_within)
-    (c.pass_in_turn.ensures (view_table c.args.beginning) c.columns_of-columns.ensures c.requires.0 (actions-told (goal.at.returns c).Else-not-actions_within))
+    (c.pass_in_turn.ensures (view_table c.args.beginning) c.of-columns.ensures c.requires.0 (actions-told (goal.at.returns c).Else-not-actions_within))

@@ -1,15 +1,11 @@
 -- `soundness::session::actions_within` meets its contract. The loop's invariant: the actions are within their limits exactly where those
--- from i on are. The measure is what is left of the list. Assumes nothing.
+-- from i on are. Assumes nothing.
 use mathlib.Core.Path.{◌≡◌}
-use Prim.Native.Nat.{◌-◌, ◌≤◌}
 use lib.ListN.{drop}
 use Rattle.actions.specs.Action.{actions_within}
 use Rattle.listed_actions.specs.Listed.{listed_actions}
 use Rattle.soundness.proofs.session.actions_within.Given as goal
 
-abbrev pub invariant-loop-i : goal.invariant-loop-i
-invariant-loop-i l =
-    (l.i ≤ l.count) × (actions_within (listed_actions l.entries l.count) ≡ actions_within (drop l.i (listed_actions l.entries l.count)))
-
-abbrev pub decreases-loop-i : goal.decreases-loop-i
-decreases-loop-i l = l.count - l.i
+abbrev pub invariant-loop-entry : goal.invariant-loop-entry
+invariant-loop-entry l =
+    actions_within (listed_actions l.fn.entries l.fn.count) ≡ actions_within (drop l.entry-index (listed_actions l.fn.entries l.fn.count))

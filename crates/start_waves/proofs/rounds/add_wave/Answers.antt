@@ -1,5 +1,5 @@
 -- `start_waves::rounds::add_wave` meets its contract. The loop's invariant is `Adding`: of the first i clusters those that join are listed.
--- The measure is what is left of the clusters. Assumes nothing.
+-- Assumes nothing.
 use Prim.Native.Nat.{◌+◌, ◌*◌, ◌≤◌}
 use mathlib.Core.Path.{◌∙◌}
 use native.Mathlib.Omega.{arith}

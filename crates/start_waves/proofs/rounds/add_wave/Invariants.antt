@@ -1,12 +1,8 @@
 -- `start_waves::rounds::add_wave` meets its contract. The loop's invariant is `Adding`: of the first i clusters those that join are listed.
--- The measure is what is left of the clusters. Assumes nothing.
-use Prim.Native.Nat.{◌-◌}
+-- Assumes nothing.
 use Rattle.start_waves.proofs.Adding.{Adding}
 use Rattle.start_waves.proofs.rounds.add_wave.Given as goal
 
 abbrev pub invariant-loop-i : goal.invariant-loop-i
 invariant-loop-i l =
     Adding l.closing l.parts l.waits l.size l.number l.initial.count l.initial.waves l.initial.buffer l.count l.waves l.buffer l.i
-
-abbrev pub decreases-loop-i : goal.decreases-loop-i
-decreases-loop-i l = l.size - l.i

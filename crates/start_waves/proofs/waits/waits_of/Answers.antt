@@ -1,5 +1,4 @@
--- `start_waves::waits::waits_of` meets its contract. The loop's invariant: the places below k are those of the table. The measure is what is left
--- of the places. Assumes nothing.
+-- `start_waves::waits::waits_of` meets its contract. The loop's invariant: the places below k are those of the table. Assumes nothing.
 use Prim.Native.Nat.{◌/◌, ◌≤◌, ◌<◌}
 use mathlib.Core.Path.{◌≡◌, refl, ◌∙◌}
 use native.Mathlib.Nat.{div-add-mod'}
@@ -26,10 +25,10 @@ below : (c : In-loop-k) → c.loop-k.k / needs_most < c.args.t.count
 below c = omega (arith, div-add-mod' c.loop-k.k needs_most)
 
 pub loop-k-init : goal.loop-k-init
-loop-k-init c = (omega arith, record { long = refl; filled = λ own j few below. absurd (omega arith) })
+loop-k-init c = record { long = refl; filled = λ own j few below. absurd (omega arith) }
 
-pub overflow_mul-count : goal.overflow_mul-count
-overflow_mul-count c = omega (arith, few (goal.at.overflow_mul-count c).Start)
+pub overflow_mul-k-end : goal.overflow_mul-k-end
+overflow_mul-k-end c = omega (arith, few (goal.at.overflow_mul-k-end c).Start)
 
 pub offset_bounds-t-own : goal.offset_bounds-t-own
 offset_bounds-t-own c = omega (arith, few (goal.at.offset_bounds-t-own c).Start)
@@ -47,16 +46,11 @@ offset_bounds-places-k c = omega (arith, few (goal.at.offset_bounds-places-k c).
 pub bounds-places-k : goal.bounds-places-k
 bounds-places-k c = omega (arith, few (goal.at.bounds-places-k c).Start)
 
-pub overflow_add-k : goal.overflow_add-k
-overflow_add-k c = omega (arith, few (goal.at.overflow_add-k c).Start)
-
 pub loop-k-preserved : goal.loop-k-preserved
-loop-k-preserved c = (
-  omega arith,
-  filled_more _ (omega (arith, few (goal.at.loop-k-preserved c).Start)) c.loop-k.invariant.1
-      (c.wait_of.ensures _ c.requires.2 ∙ wait-of-struct c.args.t (few (goal.at.loop-k-preserved c).Start) (long (goal.at.loop-k-preserved c).Start) _ _ (below (goal.at.loop-k-preserved c).In-loop-k)),
-)
+loop-k-preserved c =
+    filled_more _ (omega (arith, few (goal.at.loop-k-preserved c).Start)) c.loop-k.invariant
+    (c.wait_of.ensures _ c.requires.2 ∙ wait-of-struct c.args.t (few (goal.at.loop-k-preserved c).Start) (long (goal.at.loop-k-preserved c).Start) _ _ (below (goal.at.loop-k-preserved c).In-loop-k))
 
 pub returns : goal.returns
 unfolding WaitsOf
-returns c own j l n = c.loop-k.invariant.1.filled own j n (omega arith)
+returns c own j l n = c.loop-k.invariant.filled own j n (omega arith)

@@ -1,20 +1,29 @@
--- `text::number::number_goes_on` meets its contract. The loop's invariant: the value is at most the limit, and what is read of the
--- whole is what is read from `i` with the value so far. The measure is what is left of the text. Assumes nothing.
-use borrow.Author.Rules.{rules}
+-- `text::number::number_goes_on` meets its contract: a law of `number_goes_on` for each way out. Assumes nothing.
+use native.Mathlib.Omega.{arith}
 use Rattle.text.proofs.NumberLaws.{goes-on-end, goes-on-no-digit, goes-on-zero, goes-on-above, goes-on-digit}
 use Rattle.text.proofs.number.number_goes_on.Goals as goal
 
-pub returns-then-d-ge10 : goal.returns-then-d-ge10
-returns-then-d-ge10 c = search goes-on-no-digit
+pub returns-in_default : goal.returns-in_default
+returns-in_default c = search (goes-on-no-digit, c.in_default.ensures)
 
 pub returns-then-value-eq0 : goal.returns-then-value-eq0
-returns-then-value-eq0 c = search goes-on-zero
+returns-then-value-eq0 c = search (goes-on-zero, c.in-Some.ensures)
 
-pub returns-then-limit-value : goal.returns-then-limit-value
-returns-then-limit-value c = search goes-on-above
+pub returns-in_err-checked_mul : goal.returns-in_err-checked_mul
+returns-in_err-checked_mul c = search (goes-on-above, arith, c.in-Some.ensures, c.in_err-checked_mul.ensures)
+
+pub returns-in_err-value : goal.returns-in_err-value
+returns-in_err-value c = search (goes-on-above, arith, c.in-Some.ensures, c.in_ok-checked_mul.ensures, c.in_err-value.ensures)
+
+pub returns-then-most-value : goal.returns-then-most-value
+returns-then-most-value c = search (goes-on-above, arith, c.in-Some.ensures, c.in_ok-checked_mul.ensures, c.in_ok-value.ensures)
 
 pub loop-i-preserved : goal.loop-i-preserved
-loop-i-preserved c = (search rules, search goes-on-digit)
+loop-i-preserved c = record {
+  in_limit = c.if-most-value.false;
+  inside = omega arith;
+  same = search (goes-on-digit, arith, c.in-Some.ensures, c.in_ok-checked_mul.ensures, c.in_ok-value.ensures);
+}
 
 pub returns : goal.returns
-returns c = search goes-on-end
+returns c = search (goes-on-end, arith)

@@ -1,9 +1,0 @@
--- `call_rows::row::twelve_if` meets its contract: the same test. Assumes nothing.
-use Rattle.base.proofs.Ladder.{ladder}
-use Rattle.call_rows.proofs.row.twelve_if.Goals as goal
-
-pub returns-then-holds : goal.returns-then-holds
-returns-then-holds c = search ladder
-
-pub returns : goal.returns
-returns c = search ladder

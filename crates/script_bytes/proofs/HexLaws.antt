@@ -7,22 +7,16 @@ use native.Mathlib.Numerals.{add-one}
 use native.Mathlib.Omega.{arith}
 use lib.ListN.{length, get_or, drop, drop_of_length-le, set}
 use lib.Seq.{drop-cons}
-use lib.Dec.{eqb, ltb}
+use lib.Dec.{eqb}
 use borrow.Author.Tests.{eq-eqb, ne_eqb, ltb-true}
 use Rattle.std.specs.List.{list_all}
-use Rattle.std.specs.Prelude.{Option, is_some}
-use Rattle.base.proofs.Tests.{and_left, and_right, bool_cases, clash, cond_cases, cond-false, cond-true}
+use Rattle.base.proofs.Tests.{and_left, and_right, bool_cases, clash, cond-false, cond-true}
 use Rattle.text.specs.Meaning.{each_byte}
 use Rattle.text.specs.Put.{Put}
 use Rattle.text.proofs.Putting.{Putting, putting-room, putting-on, bytes_on, bytes-done}
-use Rattle.script_bytes.specs.Hex.{digit_value, digit_in, digit_byte, is_digit, is_digits, digits_bytes, byte_digits, bytes_digits}
+use Rattle.script_bytes.specs.Hex.{digit_value, digit_byte, is_digit, is_digits, digits_bytes, byte_digits, bytes_digits}
 
 -- ---- whether a word is digits
-
--- the code's test of a byte
-pub told-digit : (b : ℕ) → is_some (digit_in b) ≡ is_digit b
-unfolding is_digit
-told-digit b = cond_cases (λ (x : Option ℕ). is_some x ≡ ltb (digit_value b) 16) (ltb (digit_value b) 16) _ _ (λ t. sym t) (λ f. sym f)
 
 each-is-all : (test : ℕ → Bool) (l : List ℕ) → list_all test l ≡ each_byte test l
 unfolding each_byte

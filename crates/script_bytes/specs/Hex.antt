@@ -1,5 +1,5 @@
 -- "an even number of the digits `0-9a-f`", and the bytes that they stand for. "In answers `HEX` is the first form, or `-`."
-use Rattle.std.specs.Prelude.{ℕ, ◌+◌, ◌-◌, ◌*◌, ◌/◌, ◌%◌, Bool, false, cond, List, [], ◌∷◌, length, ltb, leb, eqb, Option, Some, None}
+use Rattle.std.specs.Prelude.{ℕ, ◌+◌, ◌-◌, ◌*◌, ◌/◌, ◌%◌, Bool, false, cond, List, [], ◌∷◌, length, ltb, leb, eqb}
 use Rattle.base.specs.Quoted.{bytes}
 use Rattle.text.specs.Meaning.{each_byte}
 
@@ -10,10 +10,6 @@ digit_value b =
     (cond (leb b 57) (b - 48)
     (cond (ltb b 97) 16
     (cond (leb b 102) (b - 87) 16)))
-
--- that value where the byte is a digit
-abbrev pub digit_in : ℕ → Option ℕ
-digit_in b = cond (ltb (digit_value b) 16) (Some (digit_value b)) None
 
 -- the digit of a value below 16
 unfoldable pub digit_byte : ℕ → ℕ

@@ -1,25 +1,30 @@
 // Bytes as two digits of `0-9a-f` each.
 ghost use Rattle.std.specs.Prelude.{◌≡◌, true, ◌+◌, ◌*◌, ◌<◌, ◌≤◌, length};
 ghost use Rattle.text.specs.Put.{Put};
-ghost use Rattle.script_bytes.specs.Hex.{digit_value, digit_in, digit_byte, is_digits, digits_bytes, byte_digits, bytes_digits};
+ghost use Rattle.script_bytes.specs.Hex.{digit_value, digit_byte, is_digit, is_digits, digits_bytes, byte_digits, bytes_digits};
 
-// Returns the value of a digit, or None for any other byte.
-#[tactic(auto, using(std::proofs::lemmas::Bool::Decides::nat_tests), unfolding(crate::specs::Hex::digit_value))]
-fn digit_value(b: u8) -> Option<u8>
-    ensures { result ≡ digit_in b }
+// Returns true if a byte is a digit.
+#[tactic(auto, using(std::proofs::lemmas::Bool::Decides::nat_tests), unfolding(crate::specs::Hex::digit_value, crate::specs::Hex::is_digit))]
+fn is_digit(b: u8) -> bool
+    ensures { result ≡ is_digit b }
 {
-    match b {
-        b'0'..=b'9' => Some(b - 48),
-        b'a'..=b'f' => Some(b - 87),
-        _ => None,
-    }
+    matches!(b, b'0'..=b'9' | b'a'..=b'f')
 }
 
 // Returns true if a word is an even number of digits.
 pub fn is_digits(word: &[u8]) -> bool
     ensures { result ≡ is_digits word.now }
 {
-    word.len() % 2 == 0 && word.iter().all(|b| digit_value(*b).is_some())
+    word.len() % 2 == 0 && word.iter().all(|b| is_digit(*b))
+}
+
+// Returns the value of a digit. Precondition: the byte is a digit; `digits_byte` requires it.
+#[tactic(auto, using(std::proofs::lemmas::Bool::Decides::nat_tests), unfolding(crate::specs::Hex::digit_value))]
+fn digit_value(b: u8) -> u8
+    requires { digit_value b < 16 }
+    ensures { result ≡ digit_value b }
+{
+    if b <= b'9' { b - 48 } else { b - 87 }
 }
 
 // Returns the byte of two digits. Precondition: both are digits; `put_digits_bytes` requires digits alone.
@@ -27,7 +32,7 @@ fn digits_byte(high: u8, low: u8) -> u8
     requires { (digit_value high < 16) × (digit_value low < 16) }
     ensures { result ≡ 16 * digit_value high + digit_value low }
 {
-    16 * digit_value(high).unwrap() + digit_value(low).unwrap()
+    16 * digit_value(high) + digit_value(low)
 }
 
 // Puts the bytes that digits stand for. Precondition: the word is an even number of digits, which `put_block_bytes` has tested, and the

@@ -19,7 +19,7 @@ use std::io;
 
 // Returns a number of a report in 32 bits: each is far below their end.
 fn in_32_bits(n: usize) -> u32 {
-    u32::try_from(n).unwrap_or(u32::MAX)
+    n.min(u32::MAX as usize) as u32
 }
 
 // Writes the reply of a reading call: a refusal, or its number by a name. Precondition: the name has at most 20 bytes; each caller gives a

@@ -29,10 +29,11 @@ fn number_goes_on(s: &[u8], at: usize, first: u32, most: u32) -> Option<(u32, Cu
         if value == 0 {
             return None;
         }
-        value = value.checked_mul(10)?.checked_add(d)?;
-        if most < value {
+        let longer = u64::from(value) * 10 + u64::from(d);
+        if u64::from(most) < longer {
             return None;
         }
+        value = longer as u32;
     }
     Some((
         value,

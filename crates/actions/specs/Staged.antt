@@ -9,7 +9,7 @@ use Rattle.clusters.specs.Table.{Table}
 use Rattle.actions.specs.declared.action.Change.{Change}
 use Rattle.actions.specs.declared.refusals.Staged.{Staged}
 use Rattle.actions.specs.Action.{Action, action_part}
-use Rattle.actions.specs.Refusals.{touched, staged_refusals, action_refusals}
+use Rattle.actions.specs.Refusals.{touched, staged_refusals, action_refusals, action_refusal}
 use Rattle.actions.specs.View.{action_of}
 
 -- the definition for each case: the cluster's version and mark, or that there is none
@@ -33,3 +33,7 @@ ByVersion staged change version says r =
 -- r is the first of 11 to 15 and 21 that applies, or none, for every list of actions of which `in_list` says whether it has the cluster
 abbrev pub ByTouched : Bool → Table → Action → Option ℕ → Type 0
 ByTouched in_list staged a r = (listed : List Action) → in_list ≡ touched (action_part a) listed → r ≡ first_refusal (action_refusals staged listed a)
+
+-- n is the number of the first of 11 to 15 and 21 that applies, or 0, for every such list
+abbrev pub NumberByTouched : Bool → Table → Action → ℕ → Type 0
+NumberByTouched in_list staged a n = (listed : List Action) → in_list ≡ touched (action_part a) listed → n ≡ action_refusal staged listed a

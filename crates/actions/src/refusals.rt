@@ -1,12 +1,13 @@
 // The refusals of an action: 11 to 15, and 21 directly after 13.
 ghost use Rattle.std.specs.Prelude.{◌≡◌, ◌≤◌};
+ghost use Rattle.base.specs.Refusals.{number_or_zero};
 ghost use Rattle.refusal.specs.Number.{refused_with};
 ghost use Rattle.clusters.specs.Cluster.{Cluster as PlainCluster};
 ghost use Rattle.clusters.specs.Table as table;
 ghost use Rattle.clusters.specs.Table.{clusters_most};
 ghost use Rattle.clusters.specs.View.{view_table};
 ghost use Rattle.actions.specs.Refusals.{cluster_present, cluster_absent, cluster_stays, old_version, table_full};
-ghost use Rattle.actions.specs.Staged.{staged_as, staged_refusal, ByStaged, ByVersion, ByTouched};
+ghost use Rattle.actions.specs.Staged.{staged_as, staged_refusal, ByStaged, ByVersion, ByTouched, NumberByTouched};
 ghost use Rattle.actions.specs.View.{action_of, view_action};
 
 use crate::action::{Action, Change};
@@ -120,7 +121,8 @@ fn staged_in(t: Table, part: u32) -> Option<Staged>
 // compare the count before.
 pub fn action_refusal(t: Table, in_list: bool, a: Action) -> Result<(), Refusal>
     requires { t.count ≤ clusters_most }
-    ensures { ByTouched in_list (view_table t) (view_action a) (refused_with result) }
+    ensures refused { ByTouched in_list (view_table t) (view_action a) (refused_with result) }
+    ensures number { NumberByTouched in_list (view_table t) (view_action a) (number_or_zero (refused_with result)) }
 {
     if in_list {
         return Err(Refusal::ClusterTouched);

@@ -29,9 +29,9 @@ part-written at block store part h fits e =
     rw (e, n, drop-drop (length block) at store, written-inside at block store (omega arith))
 
 -- the library's copy of a part to a lower place
-pub part-moved : (from to count : ℕ) (store new : List ℕ) → to ≤ from → from + count ≤ length store
-    → new ≡ copy_within store from (from + count) to → new ≡ moved_down from to count store
+pub part-moved : (from to count end : ℕ) (store new : List ℕ) → to ≤ from → from + count ≤ length store → end ≡ from + count
+    → new ≡ copy_within store from end to → new ≡ moved_down from to count store
 unfolding overwritten
-part-moved from to count store new low fits e =
-    let n : from + count - from ≡ count = omega arith in
+part-moved from to count end store new low fits up_to e =
+    let n : end - from ≡ count = omega arith in
     e ∙ rw (n, moved_inside from to count store low fits, length_part from count store fits, append_assoc)

@@ -7,7 +7,7 @@ use Rattle.store.proofs.move_down.Goals.{else-to-from-via-then-to-from+then-from
 use Rattle.store.proofs.move_down.Goals as goal
 
 pub returns-then-count-store : goal.returns-then-count-store
-returns-then-count-store c = part-moved _ _ _ _ _ (omega arith) (omega arith) c.copy_within.ensures.after
+returns-then-count-store c = part-moved _ _ _ _ _ _ (omega arith) (omega arith) (omega arith) c.copy_within.ensures.after
 
 pub returns-else-to-from : goal.returns-else-to-from
 returns-else-to-from c =

@@ -24,7 +24,7 @@ pub loop-i-preserved : goal.loop-i-preserved
 loop-i-preserved c =
     let l = c.loop-i in
     ap (λ (xs : List Record). set xs l.i c.record_of.result) l.invariant
-    ∙ one_more c.args.t c.requires (long (goal.at.loop-i-preserved c).Start) c.args.list.now c.if-list-t.false l.i _ c.loop-i-test.true c.record_of.ensures
+    ∙ one_more c.args.t c.requires (long (goal.at.loop-i-preserved c).Start) c.args.list.now c.if-list-t.false l.i _ (omega (arith, c.loop-i-test.true)) c.record_of.ensures
 
 pub returns : goal.returns
 returns c =

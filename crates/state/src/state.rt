@@ -30,22 +30,25 @@ pub fn loaded_state(table: Table, first: u32) -> State
 }
 
 // Gives the state in another phase, with all else as it was.
-pub fn in_phase(s: State, phase: Phase) -> State
+pub fn in_phase(mut s: State, phase: Phase) -> State
     ensures { result ≡ in_phase phase s }
 {
-    State { phase, ..s }
+    s.phase = phase;
+    s
 }
 
 // Gives the state with other transfers.
-pub fn with_transfers(s: State, transfers: Transfers) -> State
+pub fn with_transfers(mut s: State, transfers: Transfers) -> State
     ensures { result ≡ with_transfers transfers s }
 {
-    State { transfers, ..s }
+    s.transfers = transfers;
+    s
 }
 
 // Gives the state with other kept values.
-pub fn with_work(s: State, work: Work) -> State
+pub fn with_work(mut s: State, work: Work) -> State
     ensures { result ≡ with_work work s }
 {
-    State { work, ..s }
+    s.work = work;
+    s
 }

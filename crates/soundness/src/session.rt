@@ -31,8 +31,8 @@ fn actions_within(entries: [Entry; ENTRIES_MOST], count: usize) -> bool
     requires { count ≤ entries_most }
     ensures { result ≡ actions_within (listed_actions entries count) }
 {
-    for entry in &entries[..count] {
-        if !action_within(entry.action) {
+    for i in 0..count {
+        if !action_within(entries[i].action) {
             return false;
         }
     }

@@ -17,8 +17,8 @@ pub fn staged(session: Session) -> Table
     ensures { result ≡ staged_table session }
 {
     let mut table = session.beginning;
-    for entry in &session.entries[..session.count] {
-        table = apply(table, entry.action);
+    for i in 0..session.count {
+        table = apply(table, session.entries[i].action);
     }
     table
 }

@@ -6,6 +6,5 @@ use Rattle.actions.specs.Action.{actions_within}
 use Rattle.listed_actions.specs.Listed.{listed_actions}
 use Rattle.soundness.proofs.session.actions_within.Given as goal
 
-abbrev pub invariant-loop-entry : goal.invariant-loop-entry
-invariant-loop-entry l =
-    actions_within (listed_actions l.fn.entries l.fn.count) ≡ actions_within (drop l.entry-index (listed_actions l.fn.entries l.fn.count))
+abbrev pub invariant-loop-i : goal.invariant-loop-i
+invariant-loop-i l = actions_within (listed_actions l.entries l.count) ≡ actions_within (drop l.i (listed_actions l.entries l.count))

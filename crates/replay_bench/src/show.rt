@@ -1,5 +1,5 @@
 // Lines written to standard output. Each function returns the error of a write that fails.
-ghost use Rattle.std.specs.Prelude.{◌≤◌, length};
+ghost use Rattle.std.specs.Prelude.{◌≡◌, ◌≤◌, length, is_ok};
 
 use script_answers::answer::put_answer;
 use script_answers::manager_state::put_state;
@@ -18,7 +18,9 @@ pub fn show_failure(rt: &HostRuntime, stream: &str, e: io::Error) {
 }
 
 // Returns true if an answer was written. Where a write failed, standard error says why.
-pub fn is_written(rt: &HostRuntime, shown: io::Result<()>) -> bool {
+pub fn is_written(rt: &HostRuntime, shown: io::Result<()>) -> bool
+    ensures { result ≡ is_ok shown }
+{
     match shown {
         Ok(()) => true,
         Err(e) => {

@@ -1,4 +1,6 @@
 // The kinds of cases, by their sentences.
+ghost use Rattle.std.specs.Prelude.{◌≡◌, Some};
+ghost use Rattle.call_examples.specs.Kinds.{kind_sentence};
 
 // What a case does: a call, or what is shown of the state, or each of the twelve calls on a changed state.
 #[derive(Clone, Copy)]
@@ -61,39 +63,33 @@ pub const TWELVE: [Call; 13] = [
     Call::Session(SessionCall::ReportBad),
 ];
 
-// Returns the call of a sentence.
-fn call_of(sentence: &[u8]) -> Option<Call> {
-    let call = match sentence {
-        b"load, first id %:" => Call::Load,
-        b"start %:" => Call::Start,
-        b"data % %:" => Call::Data,
-        b"exit %:" => Call::Exit,
-        b"delete %:" => Call::Delete,
-        b"process %:" => Call::Session(SessionCall::Process),
-        b"work %:" => Call::Session(SessionCall::Work),
-        b"cancel %:" => Call::Session(SessionCall::Cancel),
-        b"revert:" => Call::Session(SessionCall::Revert),
-        b"activate:" => Call::Session(SessionCall::Activate),
-        b"rollback:" => Call::Session(SessionCall::Rollback),
-        b"finish:" => Call::Session(SessionCall::Finish),
-        b"report good:" => Call::Session(SessionCall::ReportGood),
-        b"report bad:" => Call::Session(SessionCall::ReportBad),
-        b"old activate:" => Call::Old(OldCall::Activate),
-        b"old cancel %:" => Call::Old(OldCall::Cancel),
-        b"old revert:" => Call::Old(OldCall::Revert),
-        b"old rollback:" => Call::Old(OldCall::Rollback),
-        _ => return None,
-    };
-    Some(call)
-}
-
 // Returns the kind of a case with a sentence.
-pub fn kind_of(sentence: &[u8]) -> Option<Kind> {
-    match sentence {
-        b"payload %:" => Some(Kind::Payload),
-        b"store:" => Some(Kind::Store),
-        b"unsound, %:" => Some(Kind::Unsound),
-        b"mark set in the %:" => Some(Kind::Marked),
-        _ => Some(Kind::Call(call_of(sentence)?)),
-    }
+pub fn kind_of(sentence: &[u8]) -> Option<Kind>
+    ensures { (kind : Kind) → sentence.now ≡ kind_sentence kind → result ≡ Some kind }
+{
+    Some(match sentence {
+        b"payload %:" => Kind::Payload,
+        b"store:" => Kind::Store,
+        b"unsound, %:" => Kind::Unsound,
+        b"mark set in the %:" => Kind::Marked,
+        b"load, first id %:" => Kind::Call(Call::Load),
+        b"start %:" => Kind::Call(Call::Start),
+        b"data % %:" => Kind::Call(Call::Data),
+        b"exit %:" => Kind::Call(Call::Exit),
+        b"delete %:" => Kind::Call(Call::Delete),
+        b"process %:" => Kind::Call(Call::Session(SessionCall::Process)),
+        b"work %:" => Kind::Call(Call::Session(SessionCall::Work)),
+        b"cancel %:" => Kind::Call(Call::Session(SessionCall::Cancel)),
+        b"revert:" => Kind::Call(Call::Session(SessionCall::Revert)),
+        b"activate:" => Kind::Call(Call::Session(SessionCall::Activate)),
+        b"rollback:" => Kind::Call(Call::Session(SessionCall::Rollback)),
+        b"finish:" => Kind::Call(Call::Session(SessionCall::Finish)),
+        b"report good:" => Kind::Call(Call::Session(SessionCall::ReportGood)),
+        b"report bad:" => Kind::Call(Call::Session(SessionCall::ReportBad)),
+        b"old activate:" => Kind::Call(Call::Old(OldCall::Activate)),
+        b"old cancel %:" => Kind::Call(Call::Old(OldCall::Cancel)),
+        b"old revert:" => Kind::Call(Call::Old(OldCall::Revert)),
+        b"old rollback:" => Kind::Call(Call::Old(OldCall::Rollback)),
+        _ => return None,
+    })
 }

@@ -8,10 +8,10 @@ use Rattle.payload.proofs.PayloadLaws.{sound-place, unsound-place, promised}
 use Rattle.payload.proofs.payload.Goals as goal
 
 pub returns-then-not-sound-clause-meaning : goal.returns-then-not-sound-clause-meaning
-returns-then-not-sound-clause-meaning c = (promised _ c.args.store _ _ no_place (sym (unsound-place _ _ _ (told _ _ _ c.sound.ensures c.if-not-sound.true))) (part_at _ no_place no_place refl)).0
+returns-then-not-sound-clause-meaning c = (promised _ c.args.store _ _ no_place (sym (unsound-place _ _ _ (told _ _ _ c.sound.ensures c.if-not-sound.true))) (part_at _ no_place no_place _ refl refl)).0
 
 pub returns-then-not-sound-clause-part : goal.returns-then-not-sound-clause-part
-returns-then-not-sound-clause-part c = (promised _ c.args.store _ _ no_place (sym (unsound-place _ _ _ (told _ _ _ c.sound.ensures c.if-not-sound.true))) (part_at _ no_place no_place refl)).1
+returns-then-not-sound-clause-part c = (promised _ c.args.store _ _ no_place (sym (unsound-place _ _ _ (told _ _ _ c.sound.ensures c.if-not-sound.true))) (part_at _ no_place no_place _ refl refl)).1
 
 pub payload_on_sound-requires : goal.payload_on_sound-requires
 payload_on_sound-requires c = told _ _ _ c.sound.ensures c.if-not-sound.false

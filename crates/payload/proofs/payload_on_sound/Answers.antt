@@ -1,15 +1,15 @@
 -- `payload::payload_on_sound` meets its contract: the part of the store at the place. Assumes nothing.
-use mathlib.Core.Path.{◌≡◌, refl}
-use Prim.Native.Nat.{◌+◌, ◌≤◌}
-use lib.ListN.{length}
+use mathlib.Core.Path.{◌≡◌, refl, sym, ap}
+use Prim.Native.Nat.{ℕ, ◌+◌, ◌≤◌}
+use lib.ListN.{length, take, drop}
 use borrow.Author.Rules.{rules}
 use native.Mathlib.Omega.{arith}
 use Rattle.std.proofs.lemmas.Result.{IfOk-at_ok}
 use Rattle.state.specs.View.{view_state}
 use Rattle.areas.proofs.FoundPackage.{areas-fit}
-use Rattle.payload.specs.Place.{place_on_sound}
+use Rattle.payload.specs.Place.{no_place, place_on_sound}
 use Rattle.payload.proofs.PayloadLaws.{sound-place, place-lies, refused-place}
-use Rattle.payload.proofs.Parts.{part_at, none-taken, no-part}
+use Rattle.payload.proofs.Parts.{part_at, none-taken}
 use Rattle.payload.proofs.payload_on_sound.Goals.{In-Ok}
 use Rattle.payload.proofs.payload_on_sound.Goals as goal
 
@@ -31,10 +31,11 @@ pub slice_bounds-result-end : goal.slice_bounds-result-end
 slice_bounds-result-end c = lies (goal.at.slice_bounds-result-end c).In-Ok
 
 pub returns-in-Ok : goal.returns-in-Ok
-returns-in-Ok c = part_at _ _ _ (place_found (goal.at.returns-in-Ok c).In-Ok)
+returns-in-Ok c =
+    part_at _ _ _ _ (place_found (goal.at.returns-in-Ok c).In-Ok) (ap (λ (n : ℕ). take n (drop c.in-Ok.place.start c.args.store.now)) (omega arith))
 
 -- by `none-taken`, however the code says that it takes nothing
 pub returns-in-Err : goal.returns-in-Err
 returns-in-Err c =
     let refused = refused-place _ _ _ _ (rw c.in-Err.is at (c.payload_place.ensures.refused (view_state c.args.s) refl)) in
-    rw refused (no-part _ _ (search (arith, none-taken)))
+    part_at _ no_place _ _ (sym refused) (search (arith, none-taken))
